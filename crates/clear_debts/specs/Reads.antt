@@ -10,15 +10,15 @@ use Rattle.clear_schema.specs.Held.{HasTables}
 use Rattle.clear_schema.specs.declared.fault.Fault.{Fault}
 
 -- the store was called and changed nothing; or, as it may be only in this case, it was not called
-abbrev pub IsStill : {S : Type 0} → Ghosts S → Type 0 → Held S → Held S → Type 0
-IsStill g uncalled old new = (uncalled × (new ≡ old)) ⊎ IsUnchanged (state g old) (state g new)
+abbrev pub IsLeftAlone : {S : Type 0} → Ghosts S → Type 0 → Held S → Held S → Type 0
+IsLeftAlone g uncalled old new = (uncalled × (new ≡ old)) ⊎ IsUnchanged (state g old) (state g new)
 
 -- a read of these tables that calls the store but in this case, and finds this
 pub record ReadsOf {S A : Type 0} (g : Ghosts S) (t : Tables) (uncalled : Type 0) (old new : Held S)
     (result : Result A Fault) (is_found : A → Type 0) : Type 0 where
   pub found : IfOk result is_found
   pub fault : AreInRange t → IfErr result IsOfDisk
-  pub same : OnOk result (IsStill g uncalled old new)
+  pub same : OnOk result (IsLeftAlone g uncalled old new)
   pub kept : KeepsCommit (state g old) (state g new)
 
 -- a read of the tables that the database has, whichever these are

@@ -11,16 +11,16 @@ ghost use Rattle.clear_book.specs.Tables.{Tables};
 ghost use Rattle.clear_schema.specs.Frame.{Leaves};
 ghost use Rattle.clear_schema.specs.Faults.{IsOfDisk};
 ghost use Rattle.clear_schema.specs.Held.{HasTables};
-ghost use Rattle.clear_debts.specs.Overdue.{AreKept, IsFirm, overdue_told};
+ghost use Rattle.clear_debts.specs.Overdue.{AreKept, IsFirm, interest_amounts, overdue_told};
 
-use crate::owing::find_charges;
+use crate::owing::{add_amounts, find_charges};
 use clear_bank::lines::Purpose;
-use clear_book::rows::{CreditRow, EmployerRow};
-use clear_book::rules::StoreCause;
+use clear_book::rows::EmployerRow;
 use clear_kept::owing::WeighedCharges;
-use clear_ledger::credits::credits_of;
+use clear_ledger::credits::credit_amounts;
 use clear_money::days::Day;
 use clear_money::months::Month;
+use clear_money::numbers::Amount;
 use clear_money::rates::RateTable;
 use clear_schema::fault::Fault;
 use clear_texts::arrears::interest_arrears;
@@ -44,9 +44,9 @@ pub struct Overdue {
 }
 
 /// What a firm has overdue on a day that is not before the ledger day, at these rates. It reads each
-/// contribution that is kept of the firm and each of its credits for interest once. It takes a step
-/// for each of these and for each member month before that of the day, and a search among the rates
-/// for each contribution and each such month. What no book holds is refused with
+/// contribution that is kept of the firm and the amount of each of its credits for interest once. It
+/// takes a step for each of these and for each member month before that of the day, and a search
+/// among the rates for each contribution and each such month. What no book holds is refused with
 /// `Fault::Store(StoreCause::Row)`: a value out of its range, and more contributions or credits than
 /// an account has.
 pub fn read_overdue<S: Alter>(
@@ -68,33 +68,32 @@ pub fn read_overdue<S: Alter>(
     ensures leaves { Leaves S.Store tx.old.conn.now tx.new.conn.now result }
 {
     let charges = find_charges(alloc, tx, member.employer)?;
-    let credits = credits_of(tx, member.employer, Purpose::Interest)?;
-    overdue_on(alloc, rates, member, &charges, credits.as_slice(), day)
+    let paid = credit_amounts(tx, member.employer, Purpose::Interest)?;
+    overdue_on(alloc, rates, member, &charges, paid.as_slice(), day)
 }
 
-// What a firm has overdue on a day by its contributions and its credits for interest.
+// What a firm has overdue on a day by its contributions and the amounts of its credits for interest.
 fn overdue_on(
     alloc: Global,
     rates: &RateTable,
     member: &EmployerRow,
     charges: &WeighedCharges,
-    credits: &[CreditRow],
+    paid: &[Amount],
     day: Day,
 ) -> Result<Overdue, Fault>
-    ensures overdue { (b : Book) → AreKept b day rates.now member.now charges.now credits.now
+    ensures overdue { (b : Book) → AreKept b day rates.now member.now charges.now
+        → paid.now ≡ interest_amounts b member.now.employer
         → IfOk result (λ overdue. overdue ≡ overdue_told b day member.now.employer) }
-    ensures fault { length credits.now ≤ most_credits → IfErr result IsOfDisk }
+    ensures fault { length paid.now ≤ most_credits → IfErr result IsOfDisk }
 {
-    let Some(interest) = interest_arrears(rates, charges, credits, day) else {
-        return Err(Fault::Store(StoreCause::Row));
-    };
+    let sum = add_amounts(paid)?;
     let months = missing_months(alloc, member, rates, charges.rows(), day)?;
     Ok(Overdue {
         missing: month_count(&months),
         first: months.first().copied(),
         arrears: charges.arrears(day),
-        interest,
-        interest_count: credits.len() as u64,
+        interest: interest_arrears(rates, charges, sum, day),
+        interest_count: paid.len() as u64,
     })
 }
 

@@ -1,5 +1,5 @@
 //! What is kept of a firm's contributions, and what it paid of them.
-ghost use Rattle.std.specs.Prelude.{◌≡◌, ◌≤◌, IfErr, IfOk, IfSome, IsSome, length, map};
+ghost use Rattle.std.specs.Prelude.{◌≡◌, ◌≤◌, IfErr, IfOk, IsOk, length, map};
 ghost use Rattle.std.specs.List.{sum};
 ghost use Rattle.sqlite.specs.Held.{state};
 ghost use Rattle.sqlite.specs.State.{HasCleanDisk};
@@ -157,24 +157,21 @@ fn add_paid<S: Alter>(tx: &mut Transaction<'_, S>, employer: EmployerNo) -> Resu
     ensures leaves { Leaves S.Store tx.old.conn.now tx.new.conn.now result }
 {
     let amounts = credit_amounts(tx, employer, Purpose::Contribution)?;
-    match add_amounts(amounts.as_slice()) {
-        Some(cents) => Ok(cents),
-        None => Err(Fault::Store(StoreCause::Row)),
-    }
+    add_amounts(amounts.as_slice())
 }
 
-// The sum of amounts, in cents. None where those before one already come to more than `MAX_CREDITED`,
-// as the credits of an account never do.
-fn add_amounts(amounts: &[Amount]) -> Option<u64>
-    ensures some { length amounts.now ≤ most_credits → IsSome result }
-    ensures value { IfSome result (λ cents. cents ≡ sum amounts.now) }
+/// The sum of amounts, in cents. Where those before one already come to more than `MAX_CREDITED`, as the
+/// credits of an account never do, it is refused with `Fault::Store(StoreCause::Row)`.
+pub(crate) fn add_amounts(amounts: &[Amount]) -> Result<u64, Fault>
+    ensures fits { length amounts.now ≤ most_credits → IsOk result }
+    ensures value { IfOk result (λ cents. cents ≡ sum amounts.now) }
 {
     let mut sum = 0;
     for amount in amounts {
         if sum > MAX_CREDITED {
-            return None;
+            return Err(Fault::Store(StoreCause::Row));
         }
         sum += amount.cents();
     }
-    Some(sum)
+    Ok(sum)
 }

@@ -26,7 +26,7 @@ use Rattle.clear_book.specs.Lines.{is_credit_of}
 use Rattle.clear_book.specs.Tables.{Tables, charge_key, piece_key, table_credits, with_pieces}
 use Rattle.clear_store.specs.Changes.{AreFree}
 use Rattle.clear_pieces.specs.Anew.{FromCharge, FromCredit, IsFreeFromCharge, IsFreeFromCredit, credit_place, month_place, pieces_beyond, settled_charges}
-use Rattle.clear_pieces.specs.Firm.{HasItsRows, IsFirm, KeepsAccount, kept_as, pieces_from, settled_from}
+use Rattle.clear_pieces.specs.Firm.{HasItsRows, IsAccountOf, KeepsAccount, kept_as, pieces_from, settled_from}
 use Rattle.clear_pieces.specs.declared.behind.NewCredits.{NewCredits}
 use Rattle.clear_pieces.specs.declared.firm.FirmAccount.{FirmAccount}
 use Rattle.clear_pieces.proofs.RangeLemmas.{settled_in_range}
@@ -35,7 +35,7 @@ use Rattle.clear_pieces.proofs.RangeLemmas.{settled_in_range}
 pub none_settled : (e : ℕ) (charges : List Charge) (credits : List Credit) (n : ℕ) → length charges ≤ n → settled_from e charges credits n ≡ []
 none_settled e charges credits n all = ap (map (kept_as e)) (drop_all n (weighed_charges charges credits) (omega (arith, all, length-map-range_with_len (λ i. weighed_charge charges credits i) 0 (length charges))))
 
-module _ (t : Tables) (e : ℕ) (firm : FirmAccount) (is : IsFirm t e firm) where
+module _ (t : Tables) (e : ℕ) (firm : FirmAccount) (is : IsAccountOf t e firm) where
   pub rows_credits : HasItsRows firm
   rows_credits = is.credits ∙ sym (ap (map row_credit) is.rows)
 

@@ -16,7 +16,7 @@ use Rattle.clear_book.specs.Accounts.{row_credit}
 use Rattle.clear_book.specs.Allocated.{contribution_rows, kept_charges}
 use Rattle.clear_book.specs.Tables.{Tables, charge_in, table_credits}
 use Rattle.clear_pieces.specs.Filled.{credit_serial, with_charges, with_credits}
-use Rattle.clear_pieces.specs.Firm.{IsFirm}
+use Rattle.clear_pieces.specs.Firm.{IsAccountOf}
 use Rattle.clear_pieces.specs.declared.firm.FirmAccount.{FirmAccount}
 use Rattle.clear_pieces.proofs.FilledLemmas.{AreAfter, IsLess, Rise, charges_rise, credits_rise, month_before, precede_none}
 
@@ -66,7 +66,7 @@ module _ (charges : List Charge) (credits : List Credit) (account : IsAccount ch
       credits_rise credits [] (rises comes_before (λ k l. IsTrue (comes_before k l)) (λ k l h. (h, before_not_after k l h)) credits account.credits_rise) (precede_none comes_before credits)
 
 -- so what was read of a firm whose rows make up an account is what the tables keep of it
-pub firm_read : (t : Tables) (e : ℕ) (firm : FirmAccount) → firm.account.charges ≡ with_charges (kept_charges t e) [] → firm.account.credits ≡ with_credits (table_credits t e) [] → firm.rows.items ≡ contribution_rows t e → IsAccount (kept_charges t e) (table_credits t e) → IsFirm t e firm
+pub firm_read : (t : Tables) (e : ℕ) (firm : FirmAccount) → firm.account.charges ≡ with_charges (kept_charges t e) [] → firm.account.credits ≡ with_credits (table_credits t e) [] → firm.rows.items ≡ contribution_rows t e → IsAccount (kept_charges t e) (table_credits t e) → IsAccountOf t e firm
 firm_read t e firm charges credits rows account = record {
   charges = charges ∙ charges_whole (kept_charges t e) (table_credits t e) account;
   credits = credits ∙ credits_whole (kept_charges t e) (table_credits t e) account;

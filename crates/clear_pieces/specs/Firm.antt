@@ -27,7 +27,7 @@ pub record KeepsAccount (t : Tables) (e : ℕ) : Type 0 where
   pub account : IsAccount (kept_charges t e) (table_credits t e)
 
 -- what was read of a firm is what the tables keep of it
-pub record IsFirm (t : Tables) (e : ℕ) (firm : FirmAccount) : Type 0 where
+pub record IsAccountOf (t : Tables) (e : ℕ) (firm : FirmAccount) : Type 0 where
   pub charges : firm.account.charges ≡ kept_charges t e
   pub credits : firm.account.credits ≡ table_credits t e
   pub rows : firm.rows.items ≡ contribution_rows t e

@@ -13,7 +13,7 @@ ghost use Rattle.clear_pieces.specs.Allocates.{Allocates, Alters, Settles};
 ghost use Rattle.clear_pieces.specs.Behind.{IsWeighedBefore, rows_from};
 ghost use Rattle.clear_pieces.specs.Anew.{ArePuttable, FromCharge, FromCredit};
 ghost use Rattle.clear_pieces.specs.Anew.{IsFreeBehind, IsFreeFromCharge, IsFreeFromCredit};
-ghost use Rattle.clear_pieces.specs.Firm.{HasItsRows, IsFirm, KeepsAccount, pieces_from};
+ghost use Rattle.clear_pieces.specs.Firm.{HasItsRows, IsAccountOf, KeepsAccount, pieces_from};
 ghost use Rattle.clear_pieces.specs.Firm.{settled_from};
 
 use crate::behind::{NewCredits, allocate_behind};
@@ -151,9 +151,9 @@ fn put_from_charge<S: Alter>(
 ) -> Result<(), Fault>
     ensures same_reference { tx.new.conn.ghost_name ≡ tx.old.conn.ghost_name }
     ensures allocates { Allocates S.Store tx.old.conn.now tx.new.conn.now result
-        (λ t pieces charges. IsFirm t employer firm.now
+        (λ t pieces charges. IsAccountOf t employer firm.now
         → FromCharge t employer month pieces charges)
-        (λ t. IsFirm t employer firm.now × KeepsAccount t employer
+        (λ t. IsAccountOf t employer firm.now × KeepsAccount t employer
         × IsFreeFromCharge t employer month) }
 {
     let credits = firm.account.all_credits();
@@ -183,9 +183,9 @@ fn put_from_credit<S: Alter>(
 ) -> Result<(), Fault>
     ensures same_reference { tx.new.conn.ghost_name ≡ tx.old.conn.ghost_name }
     ensures allocates { Allocates S.Store tx.old.conn.now tx.new.conn.now result
-        (λ t pieces charges. IsFirm t employer firm.now
+        (λ t pieces charges. IsAccountOf t employer firm.now
         → FromCredit t employer added.now pieces charges)
-        (λ t. IsFirm t employer firm.now × KeepsAccount t employer
+        (λ t. IsAccountOf t employer firm.now × KeepsAccount t employer
         × IsFreeFromCredit t employer added.now.first × IsSerial added.now.first.serial) }
 {
     let charges = firm.account.all_charges();

@@ -1,10 +1,10 @@
 //! The pieces of all firms whose account a change changes, and what is open of their
 //! contributions, kept right.
-ghost use Rattle.std.specs.Prelude.{◌≡◌, ℕ, IfErr, IfOk, IsTrue, List, None, OnOk, Some};
+ghost use Rattle.std.specs.Prelude.{◌≡◌, ℕ, IfErr, IfOk, List, None, OnOk, Some};
 ghost use Rattle.std.specs.BTreeMap.{get};
 ghost use Rattle.std.specs.Ordering.{nat_cmp};
 ghost use Rattle.sqlite.specs.Held.{state};
-ghost use Rattle.sqlite.specs.State.{HasCleanDisk, KeepsCommit, Survives};
+ghost use Rattle.sqlite.specs.State.{HasCleanDisk};
 ghost use Rattle.clear_values.specs.declared.rows.CreditRow.{CreditRow};
 ghost use Rattle.clear_values.specs.declared.rows.KeptCharge.{KeptCharge};
 ghost use Rattle.clear_values.specs.declared.rows.PieceRow.{PieceRow};
@@ -99,15 +99,7 @@ pub fn keep_pieces<S: Alter>(
         → (t : Tables) → IsPut change.now t v → TellsStood change.now t stood
         → (g : PieceRow → PieceRow) → KeepsKeys g → AreAllocated g t
         → AreInRange v → IfErr result IsOfDisk }
-    ensures kept { HasCleanDisk (state S.Store tx.new.conn.now)
-        → (v : Tables) → HasTables v (state S.Store tx.old.conn.now).now
-        → KeepsCommit (state S.Store tx.old.conn.now) (state S.Store tx.new.conn.now) }
-    ensures goes_on { HasCleanDisk (state S.Store tx.new.conn.now)
-        → (v : Tables) → HasTables v (state S.Store tx.old.conn.now).now
-        → IsTrue tx.old.conn.now.in_transaction
-        → OnOk result (IsTrue tx.new.conn.now.in_transaction) }
-    ensures survives { Survives (state S.Store tx.old.conn.now) (state S.Store tx.new.conn.now)
-        (λ _. ⊥) }
+    ensures stays { GoesOn S.Store tx.old.conn.now tx.new.conn.now result }
     // Nothing is read or written where the change concerns no account, whatever the tables hold.
     ensures rests { ConcernsNone change.now stood → tx.new.conn.now ≡ tx.old.conn.now }
 {

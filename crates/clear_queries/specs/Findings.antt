@@ -1,5 +1,5 @@
 -- What is found for a query inside of its transaction, and what is made of it.
-use Rattle.std.specs.Prelude.{◌≡◌, ◌==◌, ℕ, List, Some, None, filter}
+use Rattle.std.specs.Prelude.{◌≡◌, ℕ, List, Some, None}
 use Rattle.std.specs.Prelude.{Result, Ok, Err}
 use Rattle.std.specs.List.{AllByRecursion}
 use Rattle.clear_book.specs.declared.calls.Query.{Query}
@@ -13,7 +13,6 @@ use Rattle.clear_book.specs.Machine.{IsLawful}
 use Rattle.clear_book.specs.Allocated.{Represents, StandsWeighed}
 use Rattle.clear_book.specs.RowRanges.{IsBankRow, IsClaimRow, IsReminderRow}
 use Rattle.clear_book.specs.Tables.{Tables}
-use Rattle.clear_book.specs.Workers.{is_on}
 use Rattle.clear_reading.specs.Documents.{list_over, listed, reminded, run_over, suspended, suspense_over}
 use Rattle.clear_reading.specs.Look.{AreFewSuspended}
 use Rattle.clear_reading.specs.Paid.{ArePiecesFor, pieces_for}
@@ -54,17 +53,15 @@ IsTellable (rows.Suspense day) t = AreFewSuspended t
 -- statement, and the lines in suspense together less than 2^64 cents
 abbrev pub HasRightRows : RowDocument → Tables → Type 0
 HasRightRows (rows.Statement head) t = ArePiecesFor head t
-HasRightRows (rows.List list) t = AllByRecursion IsClaimRow (listed list t)
-HasRightRows (rows.Run run) t = AllByRecursion IsReminderRow (reminded run t)
+HasRightRows (rows.List list) t = AllByRecursion IsClaimRow (listed list.list t)
+HasRightRows (rows.Run run) t = AllByRecursion IsReminderRow (reminded run.run t)
 HasRightRows (rows.Suspense day) t = AreAddable IsBankRow (λ row. row.line.cents) (suspended t)
 
 -- the rows that a query tells of a payout list, of a reminder run and of the lines in suspense are right,
 -- whatever else the tables hold
 abbrev pub AreRightFor : Query → Tables → Type 0
-AreRightFor (Payout list) t =
-    AllByRecursion IsClaimRow (filter (λ claim. is_on list claim.state) t.claims)
-AreRightFor (Reminder run) t =
-    AllByRecursion IsReminderRow (filter (λ row. row.run == run) t.reminders)
+AreRightFor (Payout list) t = AllByRecursion IsClaimRow (listed list t)
+AreRightFor (Reminder run) t = AllByRecursion IsReminderRow (reminded run t)
 AreRightFor Suspense t = AreAddable IsBankRow (λ row. row.line.cents) (suspended t)
 AreRightFor query t = Unit {0}
 

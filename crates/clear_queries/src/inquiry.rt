@@ -10,7 +10,6 @@ ghost use Rattle.clear_book.specs.declared.calls.Call.TheVariants.{Ask};
 ghost use Rattle.clear_book.specs.Calls.{may_query};
 ghost use Rattle.clear_book.specs.Judge.{day_back};
 ghost use Rattle.clear_book.specs.Tables.{Tables};
-ghost use Rattle.clear_schema.specs.Faults.{IsOfDisk};
 ghost use Rattle.clear_schema.specs.Frame.{Leaves};
 ghost use Rattle.clear_schema.specs.Held.{HasTables, StandsFor};
 ghost use Rattle.clear_database.specs.Still.{Holds, IsStill};
@@ -113,8 +112,7 @@ pub fn inquire<S: Alter>(
         × Survives (state S.Store conn.old) (state S.Store conn.new) (λ _. ⊥)) }
     ensures failed { HasCleanDisk (state S.Store conn.new)
         → (t : Tables) → HasTables t (state S.Store conn.old).now
-        → IfErr result (λ stop. (fault : _) → stop ≡ Stop.Fault fault
-        → FailsToTell t fault ⊎ IsOfDisk fault) }
+        → IfErr result (λ stop. (fault : _) → stop ≡ Stop.Fault fault → FailsToTell t fault) }
     ensures open { HasCleanDisk (state S.Store conn.new)
         → OnOk result (IsTrue (state S.Store conn.new).is_open) }
     ensures stays { HasCleanDisk (state S.Store conn.new)

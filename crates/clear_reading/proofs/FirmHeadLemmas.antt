@@ -1,5 +1,5 @@
 -- What is read of a firm for its statement is what a lawful book says of it.
-use Rattle.std.proofs.Common.{◌≡◌, ℕ, ◌<◌, ◌-◌, List, [], ◌∷◌, filter, None, Some, Bool, true, false, cond, ◌&&◌, ◌||◌, ◌==◌, nat_lt, refl, sym, ap, ◌∙◌, subst, arith}
+use Rattle.std.proofs.Common.{◌≡◌, ℕ, ◌<◌, ◌-◌, List, [], ◌∷◌, filter, length, map, None, Some, Bool, true, false, cond, ◌&&◌, ◌||◌, ◌==◌, nat_lt, refl, sym, ap, ◌∙◌, subst, arith}
 use Rattle.std.proofs.lemmas.Bool.Decides.{nat_tests}
 use Rattle.std.proofs.lemmas.List.Elements.{All-cons, All-nil}
 use Rattle.std.proofs.lemmas.List.Kept.{AllPairs-cons}
@@ -11,23 +11,27 @@ use Rattle.clear_kept.specs.Owing.{arrears_in, charged_in}
 use Rattle.clear_kept.specs.declared.rows.WeighedCharge.{WeighedCharge}
 use Rattle.clear_kept.proofs.ArrearsLemmas.{arrears_from_rows}
 use Rattle.clear_kept.proofs.OwingLemmas.{charged_from_rows}
+use Rattle.clear_bank.specs.declared.lines.Purpose.TheVariants.{Interest}
+use Rattle.clear_book.specs.declared.rows.CreditRow.{CreditRow}
 use Rattle.clear_book.specs.declared.rows.EmployerRow.{EmployerRow}
 use Rattle.clear_book.specs.declared.rows.ReportRow.{ReportRow}
-use Rattle.clear_book.specs.Accounts.{charges_of, credits_of}
+use Rattle.clear_book.specs.Accounts.{charges_of, credit_rows_of, credits_of, row_credit}
 use Rattle.clear_book.specs.Allocated.{StandsWeighed}
 use Rattle.clear_book.specs.Book.{Book, member_of, reported_version}
 use Rattle.clear_book.specs.Judge.{day_back}
 use Rattle.clear_book.specs.Keyed.{find_row, AllBehind, AreInOrder}
+use Rattle.clear_book.specs.Lines.{is_credit_of}
 use Rattle.clear_book.specs.Machine.{IsLawful}
 use Rattle.clear_book.specs.Tables.{Tables, Stands, employer_key, member_in, report_key}
+use Rattle.clear_laws.proofs.CreditsLemmas.{credits-standing}
 use Rattle.clear_laws.proofs.KeyedLemmas.{found_key}
 use Rattle.clear_texts.specs.Records.{AreStatementRecords, ChargesRise, MonthsRise, version_in}
 use Rattle.clear_texts.specs.declared.records.StatementRecords.{StatementRecords}
 use Rattle.clear_debts.specs.Overdue.{AreKept}
 use Rattle.clear_reading.specs.FirmHead.{AreRead}
 use Rattle.clear_debts.proofs.MissingLemmas.{missing_of_book, rows_rise}
-use Rattle.clear_debts.proofs.OverdueLemmas.{few_found, interest_is, kept_found}
-use Rattle.clear_debts.proofs.OwedLemmas.{rows_are}
+use Rattle.clear_debts.proofs.OverdueLemmas.{interest_is, kept_found}
+use Rattle.clear_debts.proofs.OwedLemmas.{few_interest, rows_are}
 
 -- ---- the reports of one employer
 
@@ -95,12 +99,12 @@ module _ (b : Book) (t : Tables) (lawful : IsLawful b) (weighed : StandsWeighed 
   number : row.employer ≡ e
   number = (member_found b t weighed.stands e row found).0
 
-  kept : AreKept b day r.rates r.member r.charges r.interest_credits.items
+  kept : AreKept b day r.rates r.member r.charges
   kept =
-      subst (λ (m : EmployerRow). AreKept b day r.rates m r.charges r.interest_credits.items) (sym read.member_is)
-      (kept_found b t lawful weighed day back r.rates row r.charges r.interest_credits.items (read.rates_are ∙ weighed.stands.rates)
+      subst (λ (m : EmployerRow). AreKept b day r.rates m r.charges) (sym read.member_is)
+      (kept_found b t lawful weighed day back r.rates row r.charges (read.rates_are ∙ weighed.stands.rates)
       (ap (member_of b.entries) number ∙ (member_found b t weighed.stands e row found).1)
-      (read.charges_are ∙ sym (rows_are b t lawful weighed row.employer)) read.interest_are)
+      (read.charges_are ∙ sym (rows_are b t lawful weighed row.employer)))
 
   member_no : r.member.employer ≡ e
   member_no = ap (λ (m : EmployerRow). m.employer) read.member_is ∙ number
@@ -116,13 +120,13 @@ module _ (b : Book) (t : Tables) (lawful : IsLawful b) (weighed : StandsWeighed 
         months_rise = subst MonthsRise (sym reports_are) (months_rise r.member.employer t.reports weighed.stands.reports_in_order);
         charges = kept.charges_are;
         charges_rise = subst ChargesRise (sym kept.charges_are) (rows_rise (charges_of b r.member.employer) (credits_of b r.member.employer) kept.account.months_rise);
-        interest_credits = kept.credits_are;
-        few_credits = few_found b t lawful weighed row.employer r.interest_credits.items read.interest_are;
+        interest_credits = interest_are;
+        few_credits = omega (arith, ap length interest_are, few_interest b t lawful weighed r.member.employer);
         account = kept.account;
         days = kept.days;
         prepaid_is = prepaid;
         arrears_are = ap (λ (rows : List WeighedCharge). arrears_in rows day) kept.charges_are ∙ arrears_from_rows (charges_of b r.member.employer) (credits_of b r.member.employer) day kept.dues_rise;
-        interest_is = interest_is b day r.rates r.member r.charges r.interest_credits.items kept;
+        interest_is = interest_is b day r.rates r.member r.charges kept (credited (map row_credit r.interest_credits.items)) (ap (λ (rows : List CreditRow). credited (map row_credit rows)) interest_are);
         missing_are = missing_of_book b r.member.employer r.member r.rates r.charges kept.firm_is kept.rates_are kept.charges_are day;
       })
     where
@@ -131,6 +135,9 @@ module _ (b : Book) (t : Tables) (lawful : IsLawful b) (weighed : StandsWeighed 
 
       reports_are : r.reports.items ≡ filter (λ (report : ReportRow). report.employer == r.member.employer) t.reports
       reports_are = read.reports_are ∙ ap (λ (n : ℕ). filter (λ (report : ReportRow). report.employer == n) t.reports) own
+
+      interest_are : r.interest_credits.items ≡ credit_rows_of b r.member.employer Interest
+      interest_are = read.interest_are ∙ (λ i. filter (is_credit_of (own i) Interest) (credits-standing b t weighed.stands i))
 
       prepaid : r.prepaid ≡ prepaid_cents (charges_of b r.member.employer) (credits_of b r.member.employer)
       prepaid =

@@ -13,21 +13,21 @@ use Rattle.clear_book.specs.Documents.Reminders.{reminders_text}
 use Rattle.clear_book.specs.Documents.Suspense.{suspense_text}
 use Rattle.clear_book.specs.Workers.{is_on}
 
--- the claims on a payout list
-abbrev pub listed : ListRow → Tables → List ClaimRow
-listed list t = filter (λ claim. is_on list.list claim.state) t.claims
+-- the claims on the payout list of a number
+abbrev pub listed : ℕ → Tables → List ClaimRow
+listed list t = filter (λ claim. is_on list claim.state) t.claims
 
 -- the text of the list, over these
 abbrev pub list_over : ListRow → Tables → List ℕ
-list_over list t = payout_text list (listed list t)
+list_over list t = payout_text list (listed list.list t)
 
--- the reminders of a reminder run
-abbrev pub reminded : RunRow → Tables → List ReminderRow
-reminded run t = filter (λ row. row.run == run.run) t.reminders
+-- the reminders of the reminder run of a number
+abbrev pub reminded : ℕ → Tables → List ReminderRow
+reminded run t = filter (λ row. row.run == run) t.reminders
 
 -- the text of the run, over these
 abbrev pub run_over : RunRow → Tables → List ℕ
-run_over run t = reminders_text run (reminded run t)
+run_over run t = reminders_text run (reminded run.run t)
 
 -- the lines in suspense, in the order of their serials
 abbrev pub suspended : Tables → List BankRow

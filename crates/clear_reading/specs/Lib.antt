@@ -1,7 +1,6 @@
 pub mod Documents
 pub mod Faults
 pub mod Look
-pub mod LookParts
 pub mod Payout
 pub mod Reader
 pub mod Source

@@ -28,7 +28,7 @@ pub fn tell_list<S: Alter>(
     ensures tells { TellsDocument S.Store conn.old conn.new (list_over list.now)
         (λ t. Unit {0}) result }
     ensures only { TellsOnlyWhere S.Store conn.old conn.new
-        (λ t. AllByRecursion IsClaimRow (listed list.now t)) result }
+        (λ t. AllByRecursion IsClaimRow (listed list.now.list t)) result }
 {
     let mut rows = read_listed(conn, list.list)?;
     tell_rows(alloc, list, &mut rows)

@@ -39,11 +39,11 @@ use std::alloc::Global;
 /// stand: each firm with what it has overdue on the day and with its last reminder, by the firms'
 /// numbers, and the number that the run is to have.
 ///
-/// It reads the rates and all firms once, and then each contribution that is kept of a firm and
-/// each of its credits for interest once, its last reminder and the run of that, by a search each;
-/// of each firm it takes one step for each member month before that of the day. What no book holds
-/// is refused with `Fault::Store(StoreCause::Row)`: a value out of its range, more contributions or
-/// credits than an account has, and more runs than can be numbered.
+/// It reads the rates and all firms once, and then each contribution that is kept of a firm and the
+/// amount of each of its credits for interest once, its last reminder and the run of that, by a search
+/// each; of each firm it takes one step for each member month before that of the day. What no book
+/// holds is refused with `Fault::Store(StoreCause::Row)`: a value out of its range, more contributions
+/// or credits than an account has, and more runs than can be numbered.
 pub fn remind_view<S: Alter>(
     alloc: Global,
     tx: &mut Transaction<'_, S>,

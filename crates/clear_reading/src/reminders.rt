@@ -28,7 +28,7 @@ pub fn tell_reminders<S: Alter>(
     ensures tells { TellsDocument S.Store conn.old conn.new (run_over run.now)
         (λ t. Unit {0}) result }
     ensures only { TellsOnlyWhere S.Store conn.old conn.new
-        (λ t. AllByRecursion IsReminderRow (reminded run.now t)) result }
+        (λ t. AllByRecursion IsReminderRow (reminded run.now.run t)) result }
 {
     let mut rows = read_reminders(conn, run.run)?;
     tell_rows(alloc, run, &mut rows)

@@ -3,7 +3,7 @@ use Rattle.std.proofs.Common.{zero, suc, ◌≡◌, ℕ, ◌+◌, ◌*◌, ◌/�
 use Rattle.std.specs.List.{range_with_len}
 use Rattle.std.specs.Option.{option_map_or}
 use Rattle.clear_money.specs.Rates.{Rate}
-use Rattle.clear_account.specs.Account.{charge_at, places}
+use Rattle.clear_account.specs.Account.{charge_at, credited, places}
 use Rattle.clear_account.specs.Interest.{interest_on, interest_rate}
 use Rattle.clear_kept.specs.Owing.{arrears_in, row_interest}
 use Rattle.clear_kept.specs.Weighed.{weighed_charge}
@@ -11,7 +11,7 @@ use Rattle.clear_kept.proofs.ToldLemmas.{weight_from_row}
 use Rattle.clear_book.specs.declared.documents.ChargeState.{ChargeState}
 use Rattle.clear_book.specs.declared.documents.FirmAccount.{FirmAccount}
 use Rattle.clear_book.specs.declared.documents.Payment.{Payment}
-use Rattle.clear_book.specs.Accounts.{charges_of, credits_of, months}
+use Rattle.clear_book.specs.Accounts.{charges_of, credits_of, months, row_credit}
 use Rattle.clear_book.specs.Book.{Book, rates_of}
 use Rattle.clear_book.specs.Own.Statement.{firm_on, state_of, whole_payment}
 use Rattle.clear_texts.specs.Records.{AreStatementRecords, IsHead, member_in}
@@ -48,7 +48,7 @@ module _ (b : Book) (e day : ℕ) (r : StatementRecords) (are : AreStatementReco
       ∙ maps_alike (state_told r day) (weighed_charge (charges_of b e) (credits_of b e)) (state_of (firm_on b e day (member_in r.member))) 0 (length (charges_of b e)) (λ i less. state_same i (omega (arith, less)))
 
   pub head_is : (interest : ℕ) (firm : FirmAccount) (charges : List ChargeState) (credits : List Payment) (missing_months : List ℕ) (head : StatementHead)
-      → interest ≡ interest_owed r.rates r.charges r.interest_credits.items day
+      → interest ≡ interest_owed r.rates r.charges (credited (map row_credit r.interest_credits.items)) day
       → firm ≡ record { employer = r.member.employer; day = day; name = r.member.name; start = r.member.start; last = r.member.last; prepaid = r.prepaid; arrears = arrears_in r.charges day; interest = interest }
       → charges ≡ map (state_told r day) r.charges → credits ≡ map whole_payment r.interest_credits.items → missing_months ≡ filter (is_missing_in r.member r.rates r.charges day) months
       → head.firm ≡ firm → head.charges.items ≡ charges → head.interest_credits.items ≡ credits → head.missing.items ≡ missing_months

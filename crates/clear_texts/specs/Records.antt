@@ -1,12 +1,12 @@
 -- Which records are those of a firm or a worker in a book.
 use Rattle.std.specs.Prelude.{◌≡◌, ◌≤◌, ◌==◌, ℕ, All, Some, filter, length, map}
-use Rattle.clear_account.specs.Account.{IsAccount, places}
+use Rattle.clear_account.specs.Account.{IsAccount, credited, places}
 use Rattle.clear_account.specs.Allocation.{prepaid}
 use Rattle.clear_kept.specs.Owing.{arrears_in}
 use Rattle.clear_kept.specs.Weighed.{weighed_charges}
 use Rattle.clear_bank.specs.declared.lines.Purpose.TheVariants.{Interest}
 use Rattle.clear_book.specs.Accounts.{arrears, charges_of, credit_rows_of, credits_of}
-use Rattle.clear_book.specs.Accounts.{interest_arrears, missing, months}
+use Rattle.clear_book.specs.Accounts.{interest_arrears, missing, months, row_credit}
 use Rattle.clear_book.specs.Book.{Book, Member, member_of, rates_of, reported_version}
 use Rattle.clear_book.specs.Limits.{most_credits}
 use Rattle.clear_book.specs.Own.Statement.{firm_account, firm_on, state_of, whole_payment}
@@ -34,8 +34,8 @@ pub record AreStatementRecords (b : Book) (e day : ℕ) (r : StatementRecords) :
   pub days : All (λ k. k.day ≤ day) (credits_of b e)
   pub prepaid_is : r.prepaid ≡ prepaid (charges_of b e) (credits_of b e)
   pub arrears_are : arrears_in r.charges day ≡ arrears b e day
-  pub interest_is : interest_owed r.rates r.charges r.interest_credits.items day
-      ≡ interest_arrears b e day
+  pub interest_is : interest_owed r.rates r.charges
+      (credited (map row_credit r.interest_credits.items)) day ≡ interest_arrears b e day
   pub missing_are : filter (is_missing_in r.member r.rates r.charges day) months
       ≡ missing b e day
 

@@ -32,10 +32,9 @@ abbrev pub is_missing_in : EmployerRow → List Rate → List WeighedCharge → 
 is_missing_in member rates charges day m =
     is_member_in (member_in member) m && is_overdue rates day m && not (has_charge charges m)
 
--- the interest of all charges up to a day, less all credits for interest
-abbrev pub interest_owed : List Rate → List WeighedCharge → List CreditRow → ℕ → ℕ
-interest_owed rates charges interest_credits day =
-    interest_in rates charges day - credited (map row_credit interest_credits)
+-- the interest of all charges up to a day, less what is paid of interest
+abbrev pub interest_owed : List Rate → List WeighedCharge → ℕ → ℕ → ℕ
+interest_owed rates charges paid day = interest_in rates charges day - paid
 
 -- the credits before the last one come to more than those of an account
 abbrev pub AreTooMuch : List CreditRow → Type 0

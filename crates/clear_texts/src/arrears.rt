@@ -11,30 +11,17 @@ use clear_kept::owing::WeighedCharges;
 use clear_money::days::Day;
 use clear_money::rates::RateTable;
 
-/// The interest of all charges up to a day that no payment comes after, less all credits for
-/// interest, at least 0, in cents. None where the credits before one already come to more than
-/// `MAX_CREDITED`, as those of an account never do, and nowhere else. It takes a search among the rates
-/// for each charge, and one step for each credit.
-pub fn interest_arrears(
-    rates: &RateTable,
-    charges: &WeighedCharges,
-    interest_credits: &[CreditRow],
-    day: Day,
-) -> Option<u64>
-    ensures some { length interest_credits.now ≤ most_credits → IsSome result }
-    ensures none { result ≡ None → AreTooMuch interest_credits.now }
-    ensures value { IfSome result (λ cents. cents
-        ≡ interest_owed rates.now charges.now interest_credits.now day) }
+/// The interest of all charges up to a day that no payment comes after, less what is paid of
+/// interest, at least 0, in cents. It takes a search among the rates for each charge.
+pub fn interest_arrears(rates: &RateTable, charges: &WeighedCharges, paid: u64, day: Day) -> u64
+    ensures { result ≡ interest_owed rates.now charges.now paid day }
 {
-    match add_credits(interest_credits) {
-        Some(paid) => Some(charges.interest(rates, day).saturating_sub(paid)),
-        None => None,
-    }
+    charges.interest(rates, day).saturating_sub(paid)
 }
 
 /// The sum of credits, in cents. None where the credits before one already come to more than
 /// `MAX_CREDITED`, as those of an account never do, and nowhere else.
-pub fn add_credits(credits: &[CreditRow]) -> Option<u64>
+pub(crate) fn add_credits(credits: &[CreditRow]) -> Option<u64>
     ensures some { length credits.now ≤ most_credits → IsSome result }
     ensures none { result ≡ None → AreTooMuch credits.now }
     ensures value { IfSome result (λ sum. sum ≡ credited (map row_credit credits.now)) }

@@ -8,7 +8,7 @@ ghost use Rattle.clear_book.specs.Own.Worker.{worker_on};
 ghost use Rattle.clear_texts.specs.Records.{AreStatementRecords, AreWorkerRecords, IsFor, IsHead};
 
 use crate::account::worker_account;
-use crate::arrears::interest_arrears;
+use crate::arrears::{add_credits, interest_arrears};
 use crate::charges::charge_states;
 use crate::firm::{firm_account, whole_payments};
 use crate::missing::missing_months;
@@ -38,10 +38,10 @@ pub fn statement_head(
     ensures firm { IfOk result (IsFor records.now.member.employer day) }
 {
     let credits = records.interest_credits.as_slice();
-    let interest = match interest_arrears(&records.rates, &records.charges, credits, day) {
-        Some(interest) => interest,
-        None => return Err(RowFault::Store(StoreCause::Row)),
+    let Some(paid) = add_credits(credits) else {
+        return Err(RowFault::Store(StoreCause::Row));
     };
+    let interest = interest_arrears(&records.rates, &records.charges, paid, day);
     let rows = records.charges.rows();
     let missing = missing_months(alloc, &records.member, &records.rates, rows, day)?;
     let charges = charge_states(alloc, records, day)?;

@@ -16,17 +16,17 @@ use Rattle.clear_laws.proofs.KeyedChangesLemmas.{found_holds}
 use Rattle.clear_schema.specs.Held.{HasTables}
 use Rattle.clear_schema.specs.declared.fault.Fault.{Fault}
 use Rattle.clear_schema.specs.declared.fault.Fault.TheVariants.{Memory, Store}
-use Rattle.clear_debts.specs.Reads.{IsStill, ReadsOf}
+use Rattle.clear_debts.specs.Reads.{IsLeftAlone, ReadsOf}
 use Rattle.clear_debts.proofs.ReadLemmas.{still}
 
 module _ {S : Type 0} (g : Ghosts S) where
   -- the tables are as before
-  pub still_has : (t : Tables) (P : Type 0) (a b : Held S) → IsStill g P a b → HasTables t (state g a).now → HasTables t (state g b).now
+  pub still_has : (t : Tables) (P : Type 0) (a b : Held S) → IsLeftAlone g P a b → HasTables t (state g a).now → HasTables t (state g b).now
   still_has t P a b (inl none) has = subst (λ h. HasTables t (state g h).now) (sym none.1) has
   still_has t P a b (inr same) has = still t (state g a) (state g b) same has
 
   -- two reads, one after another
-  still_both : (P Q R : Type 0) → (P → Q → R) → (a b c : Held S) → IsStill g P a b → IsStill g Q b c → IsStill g R a c
+  still_both : (P Q R : Type 0) → (P → Q → R) → (a b c : Held S) → IsLeftAlone g P a b → IsLeftAlone g Q b c → IsLeftAlone g R a c
   still_both P Q R join a b c (inl one) (inl two) = inl (join one.0 two.0, two.1 ∙ one.1)
   still_both P Q R join a b c (inl one) (inr two) = inr (subst (λ h. IsUnchanged (state g h) (state g c)) one.1 two)
   still_both P Q R join a b c (inr one) (inl two) = inr (subst (λ h. IsUnchanged (state g a) (state g h)) (sym two.1) one)
@@ -45,7 +45,7 @@ module _ {S : Type 0} (g : Ghosts S) where
     pub reads_else : {A B : Type 0} (P Q : Type 0) (a b : Held S) (x : A) (y : B) (F : A → Type 0) (G : B → Type 0) → (P → Q) → G y → ReadsOf g t P a b (Ok x) F → ReadsOf g t Q a b (Ok y) G
     reads_else P Q a b x y F G weaker found reads = record { found = found; fault = λ _. tt; same = turned reads.same; kept = reads.kept }
       where
-        turned : IsStill g P a b → IsStill g Q a b
+        turned : IsLeftAlone g P a b → IsLeftAlone g Q a b
         turned (inl none) = inl (weaker none.0, none.1)
         turned (inr same) = inr same
 
@@ -65,7 +65,7 @@ module _ {S : Type 0} (g : Ghosts S) where
           kept = keeps_both (state g a) (state g b) (state g c) one.kept next.kept;
         }
       where
-        told : {B : Type 0} (r : Result B Fault) → OnOk r (IsStill g Q b c) → OnOk r (IsStill g R a c)
+        told : {B : Type 0} (r : Result B Fault) → OnOk r (IsLeftAlone g Q b c) → OnOk r (IsLeftAlone g R a c)
         told (Ok y) same = still_both P Q R join a b c one.same same
         told (Err fault) none = tt
 

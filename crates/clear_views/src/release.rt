@@ -45,10 +45,10 @@ use std::alloc::Global;
 /// it has, however the claim stands; and how many serials were given.
 ///
 /// It takes one search for the claim and one for its firm, reads the rates, each contribution that
-/// is kept of the firm and each of its credits for interest once, and takes one step, with a search
-/// among the rates, for each member month before that of the day. The firm's credits for
-/// contributions are read only once 100,000 serials were given: while there are fewer, their number
-/// serves for that of the credits. What no book holds is refused with
+/// is kept of the firm and the amount of each of its credits for interest once, and takes one step,
+/// with a search among the rates, for each member month before that of the day. The firm's credits
+/// for contributions are read only once 100,000 serials were given: while there are fewer, their
+/// number serves for that of the credits. What no book holds is refused with
 /// `Fault::Store(StoreCause::Row)`: a value out of its range, more contributions or credits than an
 /// account has, and a claim of a firm that isn't registered.
 pub fn release_view<S: Alter>(

@@ -10,7 +10,7 @@ pub returns-clause-put : goal.returns-clause-put
 returns-clause-put g c clean t has counts there =
     let looked = state g.S.Store c.charge_stood.new.tx.conn.now in
     let mid = state g.S.Store c.put_change.new.tx.conn.now in
-    let before = was_clean mid (state g.S.Store c.keep_pieces.new.tx.conn.now) c.keep_pieces.ensures.survives clean in
+    let before = was_clean mid (state g.S.Store c.keep_pieces.new.tx.conn.now) c.keep_pieces.ensures.stays.survives clean in
     let first = was_clean looked mid c.in_ok-put_change.ensures.puts.survives before in
     let has_looked = c.in_ok-stood.ensures.still first t has in
     let change = c.args.change.now in
@@ -22,7 +22,7 @@ pub returns-clause-fault : goal.returns-clause-fault
 returns-clause-fault g c clean t has counts there may =
     let looked = state g.S.Store c.charge_stood.new.tx.conn.now in
     let mid = state g.S.Store c.put_change.new.tx.conn.now in
-    let before = was_clean mid (state g.S.Store c.keep_pieces.new.tx.conn.now) c.keep_pieces.ensures.survives clean in
+    let before = was_clean mid (state g.S.Store c.keep_pieces.new.tx.conn.now) c.keep_pieces.ensures.stays.survives clean in
     let first = was_clean looked mid c.in_ok-put_change.ensures.puts.survives before in
     let has_looked = c.in_ok-stood.ensures.still first t has in
     let v = dated c.args.day (changed c.args.change.now t) in
@@ -52,7 +52,7 @@ returns-clause-stays g c =
     let new = state g.S.Store c.keep_pieces.new.tx.conn.now in
     let look = c.in_ok-stood.ensures in
     let puts = c.in_ok-put_change.ensures.puts in
-    let keeps = c.keep_pieces.ensures in
+    let keeps = c.keep_pieces.ensures.stays in
     record {
       goes_on = λ clean t has fits inside.
           let before = was_clean mid new keeps.survives clean in

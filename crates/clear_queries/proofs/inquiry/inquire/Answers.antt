@@ -6,7 +6,7 @@ use Rattle.clear_book.specs.declared.calls.Caller.{Caller}
 use Rattle.clear_book.specs.declared.outcomes.Answer.{Answer}
 use Rattle.clear_book.specs.Calls.{may_query}
 use Rattle.clear_book.specs.Tables.{Tables}
-use Rattle.std.proofs.lemmas.Result.{IfErr-weaker, err_from_is_err_and}
+use Rattle.std.proofs.lemmas.Result.{err_from_is_err_and}
 use Rattle.clear_laws.proofs.WeighedLemmas.{stands_weighed}
 use Rattle.clear_schema.specs.Held.{HasTables, StandsFor}
 use Rattle.clear_queries.specs.Findings.{FindsStatement, IsTold, TellsOnlyRight, answer_of}
@@ -58,12 +58,12 @@ returns-in-Document-clause-failed g c clean t has =
     let done = c.in_ok-answer.ensures.done (c.tell_document.ensures.clean clean) t has in
     let now : HasTables t (state g.S.Store mid).now = subst (λ (u : Tables). HasTables u (state g.S.Store mid).now) done.1.0 done.2 in
     let told : IsTold (finding.Document c.in-Document.document) t = subst (λ (found : Finding). IsTold found t) c.in-Document.is done.1.1 in
-    IfErr-weaker c.tell_document.result _ _ (λ stop fails fault is. inl (fails fault is)) (c.tell_document.ensures.failed clean t now told)
+    c.tell_document.ensures.failed clean t now told
 
 pub returns-in_err-answer-clause-failed : goal.returns-in_err-answer-clause-failed
 returns-in_err-answer-clause-failed g c clean t has =
     let p = err_from_is_err_and c.from_residual.result c.from_residual.ensures.1 in
-    rw (p.1, p.2) (λ fault is. elim (c.in_err-answer.ensures.failed clean t has fault is) [ inl fails ↦ inl (λ b lawful represents. fails b lawful (stands_weighed (λ row. row) b t represents)) | inr disk ↦ inr disk ])
+    rw (p.1, p.2) (λ fault is. elim (c.in_err-answer.ensures.failed clean t has fault is) [ inl fails ↦ λ b lawful represents. fails b lawful (stands_weighed (λ row. row) b t represents) | inr disk ↦ λ b lawful represents. disk ])
 
 pub returns-in-Answer-clause-only : goal.returns-in-Answer-clause-only
 returns-in-Answer-clause-only g c clean t has =
