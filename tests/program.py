@@ -204,12 +204,13 @@ class Init(Program):
         self.assertTrue(self.database("CREATE TABLE note (title TEXT)", "DROP TABLE note"))
         self.init()
 
-    def test_what_tells_no_schema_is_left_as_it_is(self):
-        for number, told in (("-5", "rule 41 Store\n"), ("'one'", "rule 41 Store\n"), ("7", "rule 43 WrongVersion 7\n")):
+    def test_another_programs_meta_is_not_asked(self):
+        for number in ("-5", "'one'", "1", "7"):
             with self.subTest(number):
                 before = self.database("CREATE TABLE meta (one, schema)", f"INSERT INTO meta VALUES (1, {number})")
-                self.expect(["init", "fund.db", "rates.toml"], 3, "", told)
-                self.assertEqual((self.folder / "fund.db").read_bytes(), before)
+                for words in (["init", "fund.db", "rates.toml"], ["migrate", "fund.db"], ["statement", "fund.db", DAY, "1001"]):
+                    self.expect(words, 3, "", "rule 43 WrongVersion 0\n")
+                    self.assertEqual((self.folder / "fund.db").read_bytes(), before)
 
     def test_a_store_of_another_build_is_left_as_it_is(self):
         changes = (

@@ -173,6 +173,12 @@ class Stores(ProgramUnderTest):
         self.write("text", "a text of more than nothing\n" * 200)
         self.write("other.db", "")
         self.change("other.db", "CREATE TABLE note (id INTEGER PRIMARY KEY, title TEXT NOT NULL)")
+        # Each has a `meta` of its own, the first of them behind another table.
+        self.write("behind.db", (self.folder / "other.db").read_bytes())
+        self.write("own.db", "")
+        for name in ("behind.db", "own.db"):
+            self.change(name, "CREATE TABLE meta (one INTEGER PRIMARY KEY, schema INTEGER NOT NULL)")
+            self.change(name, "INSERT INTO meta VALUES (1, 7)")
         self.write("damaged.db", bytes(self.damaged()))
         self.old_store("old.db")
         self.copy("later.db", "UPDATE meta SET schema = 7")
@@ -180,7 +186,7 @@ class Stores(ProgramUnderTest):
         store, none, later = "rule 41 Store\n", "rule 43 WrongVersion 0\n", "rule 43 WrongVersion 7\n"
         return {
             "no.db": store, "no/fund.db": store, ".": store, "empty": none, "text": store, "damaged.db": store,
-            "other.db": none, "old.db": none, "later.db": later, "changed.db": store}
+            "other.db": none, "behind.db": none, "own.db": none, "old.db": none, "later.db": later, "changed.db": store}
 
 
 class Look(Stores):
@@ -258,6 +264,8 @@ last run 1 2024-05-17
             "text": "this file is no database, or a damaged one\n",
             "damaged.db": "its tables can't be read, or are others than this program's\n",
             "other.db": "this database is no store of this program, or one of schema 0\n",
+            "behind.db": "this database is no store of this program, or one of schema 0\n",
+            "own.db": "this database is no store of this program, or one of schema 0\n",
             "old.db": "this database is no store of this program, or one of schema 0\n",
             "later.db": "this store has schema 7, and this program's is 1\n",
             "changed.db": "its tables can't be read, or are others than this program's\n",

@@ -2,5 +2,6 @@ pub mod ConfirmLemmas
 pub mod FirstLemmas
 pub mod LookLemmas
 pub mod MakeLemmas
+pub mod MetaLemmas
 pub mod OpenLemmas
 pub mod VersionLemmas

@@ -6,24 +6,21 @@ use Rattle.sqlite.specs.Collation.TheVariants.{Binary}
 use Rattle.sqlite.specs.declared.types.Value.{Value}
 use Rattle.sqlite.specs.declared.types.Value.TheVariants.{Int, Null}
 use Rattle.sqlite.specs.declared.error.Error.{Error}
-use Rattle.sqlite.specs.declared.error.Error.TheVariants.{SqliteFailure, MultipleStatement, InvalidQuery, InvalidParameterCount, SqlInputError, QueryReturnedNoRows}
+use Rattle.sqlite.specs.declared.error.Error.TheVariants.{SqliteFailure, MultipleStatement, InvalidQuery, InvalidParameterCount, QueryReturnedNoRows}
 use Rattle.sqlite.specs.Order.{Row}
 use Rattle.sqlite.specs.Term.{Term, lit, col, op2}
-use Rattle.sqlite.specs.Tree.{Trees}
-use Rattle.sqlite.specs.State.{State, IsUnchanged, QueriesRow, Begins, Shown, Survives, CommitsShowing, FailsToQuery, IsNotRun, FailsToShow, store_error}
+use Rattle.sqlite.specs.State.{State, IsUnchanged, QueriesRow, Shown, Survives, CommitsShowing, FailsToQuery, IsNotRun, FailsToShow, store_error}
 use Rattle.sqlite.specs.Effect.{Answers, Database, RefusesToRead}
 use Rattle.sqlite.specs.Schema.{Schema}
 use Rattle.sqlite.specs.Table.{Table}
 use Rattle.sqlite_schema.specs.declared.schema.Index.{Index}
 use Rattle.sqlite_schema.specs.declared.schema.View.{View as Stored}
 use Rattle.sqlite.specs.Clock.{timed}
-use Rattle.sqlite.specs.Listing.{understood, reads_listing, listing_schema}
+use Rattle.sqlite.specs.Listing.{understood, reads_listing}
 use Rattle.std.proofs.lemmas.List.Sorted.{length_permutation}
 use Rattle.sqlite.proofs.Callers.{IsPlain, command_of, first_as, one_permutation, reads_as}
 use Rattle.sqlite_sql.specs.declared.ops.BinaryOp.TheVariants.{Compare}
 use Rattle.sqlite_sql.specs.declared.ops.CompareOp.TheVariants.{Eq}
-use Rattle.sqlite_resolve.specs.declared.error.CompileError.{CompileError}
-use Rattle.sqlite_resolve.specs.declared.error.CompileError.TheVariants.{NoSuchTable}
 use Rattle.sqlite_tied.specs.Compute.{everything}
 use Rattle.sqlite_trees.specs.declared.error.StoreError.{StoreError}
 use Rattle.sqlite_trees.specs.declared.error.StoreError.TheVariants.{OutOfMemory, Io, Corrupt, Full, Broken, Unstorable}
@@ -32,8 +29,7 @@ use Rattle.clear_rows.proofs.Queries.{shown_in_some_order}
 use Rattle.clear_rows.proofs.Reopened.{query_survives}
 use Rattle.clear_rows.proofs.Statements.{shown_unchanged}
 use Rattle.clear_schema.specs.Held.{HasMeta, TellsSchema}
-use Rattle.clear_database.specs.Opening.{HasMetaOrNothing}
-use Rattle.clear_schema.specs.Schema.{meta_table, no_schema}
+use Rattle.clear_schema.specs.Schema.{meta_table}
 use Rattle.clear_schema.specs.Values.{number}
 use Rattle.clear_schema.proofs.ValueLemmas.{equal_ints}
 
@@ -74,10 +70,6 @@ module _ (s : Schema) (has : HasMeta s) where
   pub version_reads : reads_listing s version_text ≡ false
   version_reads = ap (λ k. reads_listing k version_text) is_behind ∙ version_reads_behind has.0 s.indexes s.views
 
-pub version_none : understood no_schema version_text ≡ Err NoSuchTable
-unfolding understood everything listing_schema
-version_none = refl
-
 -- ---- the errors of the call, and those of the text or the answer
 
 abbrev is_failure : Error → Bool
@@ -95,51 +87,9 @@ stored_fails Full = refl
 stored_fails Broken = refl
 stored_fails Unstorable = refl
 
--- ---- on an empty database
-
--- no statement is understood
-pub not_understood : (s : Schema) → s ≡ no_schema → (c : _) → understood s version_text ≡ Ok c → ⊥
-not_understood s none c is = let e = sym is ∙ ap (λ s. understood s version_text) none ∙ version_none in cc
-
-pub no_answer : (old new : State) (row : Row) → old.now.schema ≡ no_schema → QueriesRow version_text [] old new (Ok row) → ⊥
-unfolding QueriesRow Begins Shown
-no_answer old new row none (inl h) = not_understood old.now.schema none h.0.0 h.0.1.is
-no_answer old new row none (inr h) = not_understood old.now.schema none h.1.0 h.1.1.is
-
-not_run_unchanged : (old new : State) (e : Error) → is_failure e ≡ false → IsNotRun old new version_text [] e → IsUnchanged old new
-unfolding IsNotRun
-not_run_unchanged old new e other (inl h) = h.1
-not_run_unchanged old new e other (inr h) = absurd (let both = sym other ∙ ap is_failure h.1 ∙ stored_fails h.0 in cc)
-
-fails_unchanged : (old new : State) (e : Error) → is_failure e ≡ false → old.now.schema ≡ no_schema → FailsToQuery version_text [] old new e → IsUnchanged old new
-unfolding FailsToQuery
-fails_unchanged old new e other none (inl h) = not_run_unchanged old new e other h
-fails_unchanged old new e other none (inr h) = absurd (not_understood old.now.schema none h.0 h.1.is)
-
-pub not_shown : (old new : State) → old.now.schema ≡ no_schema → Shown version_text [] old new [] → ⊥
-unfolding Shown
-not_shown old new none h = not_understood old.now.schema none h.0 h.1.is
-
-pub empty_unchanged : (old new : State) (e : Error) → is_failure e ≡ false → old.now.schema ≡ no_schema → QueriesRow version_text [] old new (Err e) → IsUnchanged old new
-unfolding QueriesRow
-empty_unchanged old new e other none (inl h) = fails_unchanged old new e other none h
-empty_unchanged old new e other none (inr h) = absurd (not_shown old new none h.1)
-
-never_commits_here : (old : State) (db : Trees) → old.now.schema ≡ no_schema → CommitsShowing version_text [] old db → ⊥
-unfolding CommitsShowing
-never_commits_here old db none h = not_understood old.now.schema none h.0 h.1.is
-
 -- the query commits nothing
-pub version_survives : (old new : State) → HasMetaOrNothing old.now.schema → Survives old new (CommitsShowing version_text [] old) → Survives old new (λ _. ⊥)
-version_survives old new (inl has) s = query_survives version_text [] old new old.now.schema refl (version_plain old.now.schema has) s
-version_survives old new (inr none) s = record {
-  clean = s.clean;
-  shield = s.shield;
-  counts = s.counts;
-  limit = s.limit;
-  closes = s.closes;
-  crash = λ clean db may. elim (s.crash clean db may) [ inl before ↦ inl before | inr commits ↦ absurd (never_commits_here old db none commits) ];
-}
+pub version_survives : (old new : State) → HasMeta old.now.schema → Survives old new (CommitsShowing version_text [] old) → Survives old new (λ _. ⊥)
+version_survives old new has s = query_survives version_text [] old new old.now.schema refl (version_plain old.now.schema has) s
 
 -- ---- on a store
 
@@ -208,9 +158,6 @@ module _ (old new : State) (has : HasMeta old.now.schema) (e : Error) where
   error_is (inl h) = inl (query_fails h)
   error_is (inr h) = inr h
 
-pub no_input_error : (old new : State) (fault : CompileError) → HasMeta old.now.schema → QueriesRow version_text [] old new (Err (SqlInputError fault)) → ⊥
-no_input_error old new fault has h = elim (error_is old new has (SqlInputError fault) h) [ inl f ↦ absurd cc | inr r ↦ absurd (let e = r.0 in cc) ]
-
 pub no_rows_never : (v : Value) (rest : Row) (old new : State) → HasMeta old.now.schema → old.now.trees 0 ≡ meta_row v rest ∷ [] → QueriesRow version_text [] old new (Err QueryReturnedNoRows) → ⊥
 no_rows_never v rest old new has kept h = elim (error_is old new has QueryReturnedNoRows h) [
   | inl f ↦ absurd cc
@@ -226,22 +173,13 @@ told_number (Err e) row k h is = tt
 
 -- ---- the query leaves all
 
-row_unchanged : (old new : State) (row : Row) → HasMeta old.now.schema → QueriesRow version_text [] old new (Ok row) → IsUnchanged old new
+pub found_unchanged : (old new : State) (row : Row) → HasMeta old.now.schema → QueriesRow version_text [] old new (Ok row) → IsUnchanged old new
 unfolding QueriesRow
-row_unchanged old new row has (inl h) = h.1
-row_unchanged old new row has (inr h) = shown_unchanged version_text [] old new h.0 old.now.schema refl (version_plain old.now.schema has) h.1
+found_unchanged old new row has (inl h) = h.1
+found_unchanged old new row has (inr h) = shown_unchanged version_text [] old new h.0 old.now.schema refl (version_plain old.now.schema has) h.1
 
-pub found_unchanged : (old new : State) (row : Row) → HasMetaOrNothing old.now.schema → QueriesRow version_text [] old new (Ok row) → IsUnchanged old new
-found_unchanged old new row (inl has) h = row_unchanged old new row has h
-found_unchanged old new row (inr none) h = absurd (no_answer old new row none h)
-
-pub input_unchanged : (old new : State) (fault : CompileError) → HasMetaOrNothing old.now.schema → QueriesRow version_text [] old new (Err (SqlInputError fault)) → IsUnchanged old new
-input_unchanged old new fault (inl has) h = absurd (no_input_error old new fault has h)
-input_unchanged old new fault (inr none) h = empty_unchanged old new (SqlInputError fault) refl none h
-
-pub none_unchanged : (old new : State) → HasMetaOrNothing old.now.schema → QueriesRow version_text [] old new (Err QueryReturnedNoRows) → IsUnchanged old new
-none_unchanged old new (inl has) h = elim (error_is old new has QueryReturnedNoRows h) [
+pub none_unchanged : (old new : State) → HasMeta old.now.schema → QueriesRow version_text [] old new (Err QueryReturnedNoRows) → IsUnchanged old new
+none_unchanged old new has h = elim (error_is old new has QueryReturnedNoRows h) [
   | inl f ↦ absurd cc
   | inr r ↦ shown_unchanged version_text [] old new [] old.now.schema refl (version_plain old.now.schema has) r.1
 ]
-none_unchanged old new (inr none) h = empty_unchanged old new QueryReturnedNoRows refl none h

@@ -9,7 +9,7 @@ ghost use Rattle.clear_values.specs.Ranges.{AreRates};
 ghost use Rattle.clear_values.specs.Tables.{Tables};
 ghost use Rattle.clear_schema.specs.Faults.{IsOfDisk, TellsOutOfRange};
 ghost use Rattle.clear_database.specs.First.{first_tables};
-ghost use Rattle.clear_schema.specs.Held.{HasMeta, HasTables, StandsFor, TellsSchema};
+ghost use Rattle.clear_schema.specs.Held.{HasTables, StandsFor, TellsSchema};
 ghost use Rattle.clear_database.specs.Making.{IsMade, rate_number};
 ghost use Rattle.clear_database.specs.Opening.{IsBelowZero, TellsNoNumber, TellsNumberOrNone};
 ghost use Rattle.clear_schema.specs.Schema.{no_schema, store_schema};
@@ -27,8 +27,8 @@ use sqlite_schema::schema::Schema;
 
 /// Makes the tables of an office without requests in an empty database, with its opening rates, in
 /// one transaction. A database that has a table, an index or a view is refused: where it tells a number
-/// in `meta`, by `WrongVersion` with that one, and with 0 where `meta` has no row. Nothing changes where
-/// a `meta` stands first, whatever it tells.
+/// in `meta`, by `WrongVersion` with that one, and otherwise with 0. A refusal leaves any database as
+/// it was.
 pub fn create_in<S: Alter>(conn: &mut Connection<S>, rates: &RateTable) -> Result<(), OpenFault>
     requires { conn.old.in_transaction ≡ false }
     ensures mode { conn.new.in_transaction ≡ false }
@@ -45,11 +45,6 @@ pub fn create_in<S: Alter>(conn: &mut Connection<S>, rates: &RateTable) -> Resul
         → (state S.Store conn.old).now.schema ≡ no_schema
         → OnOk result ((trees : Trees) → (state S.Store conn.new).may_leave trees
         → StandsFor (first_tables rates.now) trees) }
-    ensures undone { HasCleanDisk (state S.Store conn.new)
-        → (state S.Store conn.old).now.schema ≡ no_schema
-        → IsTrue (state S.Store conn.new).is_open
-        → OnErr result (((state S.Store conn.new).now ≡ (state S.Store conn.old).committed)
-        × ((state S.Store conn.new).committed ≡ (state S.Store conn.old).committed)) }
     ensures empty { HasCleanDisk (state S.Store conn.new)
         → (state S.Store conn.old).now.schema ≡ no_schema
         → (told : ℕ) → IfErr result (λ fault. fault ≢ OpenFault.WrongVersion told) }
@@ -59,17 +54,16 @@ pub fn create_in<S: Alter>(conn: &mut Connection<S>, rates: &RateTable) -> Resul
         → OnOk result ⊥
         × IfErr result (λ fault. (told : ℕ) → fault ≡ OpenFault.WrongVersion told
         → told ≡ number) }
-    // Of a `meta` without a row no number is told but 0.
+    // No number is told but 0 where no `meta` of ours stands first, or it has no row.
     ensures no_number { HasCleanDisk (state S.Store conn.new)
         → TellsNoNumber (state S.Store conn.old).now
         → IfErr result (λ fault. (told : ℕ) → fault ≡ OpenFault.WrongVersion told → told ≡ 0) }
     ensures below_zero { HasCleanDisk (state S.Store conn.new)
         → IsBelowZero (state S.Store conn.old).now → IfErr result TellsOutOfRange }
-    // Nothing changes where `meta` stands first, whatever it tells.
-    ensures rests { HasCleanDisk (state S.Store conn.new)
-        → HasMeta (state S.Store conn.old).now.schema → IsTrue (state S.Store conn.new).is_open
-        → IsStill (state S.Store conn.old) (state S.Store conn.new) }
-    ensures rests_after { HasMeta (state S.Store conn.old).now.schema
+    // A refusal changes nothing, whatever the database is.
+    ensures rests { HasCleanDisk (state S.Store conn.new) → IsTrue (state S.Store conn.new).is_open
+        → OnErr result (IsStill (state S.Store conn.old) (state S.Store conn.new)) }
+    ensures rests_after { (state S.Store conn.old).now.schema ≢ no_schema
         → Survives (state S.Store conn.old) (state S.Store conn.new) (λ _. ⊥) }
     ensures cause { HasCleanDisk (state S.Store conn.new)
         → TellsNumberOrNone (state S.Store conn.old).now
@@ -119,6 +113,9 @@ fn create_tables<S: Alter>(conn: &mut Connection<S>, rates: &RateTable) -> Resul
     ensures undone { HasCleanDisk (state S.Store conn.new) → IsTrue (state S.Store conn.new).is_open
         → OnErr result (((state S.Store conn.new).now ≡ (state S.Store conn.old).committed)
         × ((state S.Store conn.new).committed ≡ (state S.Store conn.old).committed)) }
+    ensures was_open { HasCleanDisk (state S.Store conn.new)
+        → IsTrue (state S.Store conn.new).is_open
+        → OnErr result (IsTrue (state S.Store conn.old).is_open) }
     ensures cause { HasCleanDisk (state S.Store conn.new)
         → (state S.Store conn.old).now.schema ≡ no_schema → IfErr result IsOfDisk }
     ensures clean { HasCleanDisk (state S.Store conn.new) → HasCleanDisk (state S.Store conn.old) }

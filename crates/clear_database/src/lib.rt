@@ -10,5 +10,6 @@ pub mod body;
 pub mod create;
 pub mod laws;
 pub mod make;
+pub mod meta;
 pub mod open;
 pub mod store;

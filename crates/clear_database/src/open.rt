@@ -1,20 +1,20 @@
 //! Finding the store in a database that it was made in.
 ghost use Rattle.std.specs.Prelude.{◌≡◌, ◌≢◌, false, ℕ, negsuc, [], ◌∷◌, Some, None};
-ghost use Rattle.std.specs.Prelude.{IsTrue, OnOk, IfOk, IfErr};
+ghost use Rattle.std.specs.Prelude.{IsSome, IsTrue, Ok, OnOk, IfOk, IfErr};
 ghost use Rattle.sqlite.specs.declared.types.Value.TheVariants.{Int};
 ghost use Rattle.sqlite.specs.Held.{state};
 ghost use Rattle.sqlite.specs.State.{HasCleanDisk, Survives, IsUnchanged};
 ghost use Rattle.clear_values.specs.Tables.{Tables};
 ghost use Rattle.clear_schema.specs.Faults.{IsOfDisk, IsOfRowOrDisk, IsWrong, TellsOutOfRange};
 ghost use Rattle.clear_schema.specs.Faults.{other_layout};
-ghost use Rattle.clear_schema.specs.Held.{HasTables, StandsFor, StandsOtherwise, TellsAs};
-ghost use Rattle.clear_schema.specs.Held.{TellsSchema, this_schema};
-ghost use Rattle.clear_database.specs.Opening.{HasMetaOrNothing, IsBelowZero};
-ghost use Rattle.clear_database.specs.Opening.{TellsNoNumber, TellsNumberOrNone};
+ghost use Rattle.clear_schema.specs.Held.{HasMeta, HasTables, StandsFor, StandsOtherwise};
+ghost use Rattle.clear_schema.specs.Held.{TellsAs, TellsSchema, this_schema};
+ghost use Rattle.clear_database.specs.Opening.{IsBelowZero, TellsNoNumber, TellsNumberOrNone};
 ghost use Rattle.clear_schema.specs.Schema.{store_schema};
 ghost use Rattle.clear_database.specs.Still.{IsStill};
 ghost use Rattle.clear_schema.specs.Values.{number as stored_number};
 
+use crate::meta::has_meta;
 use crate::store::SCHEMA;
 use clear_schema::fault::{Fault, OpenFault, fault_of, read_fault};
 use clear_schema::layout::has_this_layout;
@@ -54,21 +54,11 @@ pub fn open_tables<S: Alter>(conn: &mut Connection<S>) -> Result<(), OpenFault>
         → TellsNumberOrNone (state S.Store conn.old).now
         → IfErr result (λ fault. (why : Fault) → fault ≡ OpenFault.Failed why → IsOfDisk why) }
     ensures clean { HasCleanDisk (state S.Store conn.new) → HasCleanDisk (state S.Store conn.old) }
-    // Nothing changes in a database that tells a number, ours or another one.
+    // Nothing changes, whatever the database is.
     ensures still { HasCleanDisk (state S.Store conn.new)
-        → (number : ℕ) → TellsAs number (state S.Store conn.old).committed.trees
-        → IsTrue (state S.Store conn.old).is_open → IsTrue (state S.Store conn.new).is_open
-        → IsStill (state S.Store conn.old) (state S.Store conn.new) }
-    ensures survives { (number : ℕ) → TellsAs number (state S.Store conn.old).committed.trees
-        → IsTrue (state S.Store conn.old).is_open
-        → Survives (state S.Store conn.old) (state S.Store conn.new) (λ _. ⊥) }
-    // Nor does anything where `meta` stands first, whatever it tells, or in an empty database.
-    ensures rests { HasCleanDisk (state S.Store conn.new)
-        → HasMetaOrNothing (state S.Store conn.old).now.schema
         → IsTrue (state S.Store conn.new).is_open
         → IsStill (state S.Store conn.old) (state S.Store conn.new) }
-    ensures rests_after { HasMetaOrNothing (state S.Store conn.old).now.schema
-        → Survives (state S.Store conn.old) (state S.Store conn.new) (λ _. ⊥) }
+    ensures survives { Survives (state S.Store conn.old) (state S.Store conn.new) (λ _. ⊥) }
 {
     let schema = conn.schema();
     let ours = has_this_layout(schema);
@@ -102,8 +92,8 @@ fn taken_if(ours: bool) -> Result<(), OpenFault>
     }
 }
 
-/// The number of its schema that the database tells, or none where it has no table for it or no
-/// row there.
+/// The number of its schema that the database tells, or none where it has no `meta` of ours as its first
+/// table, or no row there. Only such a `meta` is asked, so any other database is left alone.
 pub fn found_schema<S: Alter>(conn: &mut Connection<S>) -> Result<Option<u64>, Fault>
     ensures empty { HasCleanDisk (state S.Store conn.new)
         → TellsNoNumber (state S.Store conn.old).now
@@ -114,25 +104,57 @@ pub fn found_schema<S: Alter>(conn: &mut Connection<S>) -> Result<Option<u64>, F
     ensures below_zero { HasCleanDisk (state S.Store conn.new)
         → IsBelowZero (state S.Store conn.old).now
         → OnOk result ⊥ × IfErr result IsOfRowOrDisk }
+    ensures only_meta { IfOk result (λ found. IsSome found
+        → HasMeta (state S.Store conn.old).now.schema) }
+    ensures unasked { ¬ HasMeta (state S.Store conn.old).now.schema
+        → (result ≡ Ok None) × (conn.new ≡ conn.old) }
     ensures same { HasCleanDisk (state S.Store conn.new)
-        → HasMetaOrNothing (state S.Store conn.old).now.schema
+        → HasMeta (state S.Store conn.old).now.schema
         → OnOk result (IsUnchanged (state S.Store conn.old) (state S.Store conn.new)) }
     ensures mode { conn.old.in_transaction ≡ false → conn.new.in_transaction ≡ false }
     ensures still { HasCleanDisk (state S.Store conn.new)
-        → conn.old.in_transaction ≡ false → HasMetaOrNothing (state S.Store conn.old).now.schema
-        → IsTrue (state S.Store conn.new).is_open
+        → conn.old.in_transaction ≡ false → IsTrue (state S.Store conn.new).is_open
         → IsStill (state S.Store conn.old) (state S.Store conn.new) }
     ensures cause { HasCleanDisk (state S.Store conn.new)
         → TellsNumberOrNone (state S.Store conn.old).now → IfErr result IsOfDisk }
     ensures clean { HasCleanDisk (state S.Store conn.new) → HasCleanDisk (state S.Store conn.old) }
-    ensures survives { HasMetaOrNothing (state S.Store conn.old).now.schema
-        → Survives (state S.Store conn.old) (state S.Store conn.new) (λ _. ⊥) }
+    ensures survives { Survives (state S.Store conn.old) (state S.Store conn.new) (λ _. ⊥) }
+{
+    // For what it says of a connection outside of a transaction.
+    let _outside = conn.is_autocommit();
+    if has_meta(conn.schema()) {
+        number_of_meta(conn)
+    } else {
+        Ok(None)
+    }
+}
+
+// The number in the one row of `meta`, or none where there is no row.
+fn number_of_meta<S: Alter>(conn: &mut Connection<S>) -> Result<Option<u64>, Fault>
+    requires { HasMeta (state S.Store conn.old).now.schema }
+    ensures empty { HasCleanDisk (state S.Store conn.new)
+        → (state S.Store conn.old).now.trees 0 ≡ [] → IfOk result (λ found. found ≡ None) }
+    ensures found { HasCleanDisk (state S.Store conn.new)
+        → (number : ℕ) → TellsSchema number (state S.Store conn.old).now
+        → IfOk result (λ found. found ≡ Some number) }
+    ensures below_zero { HasCleanDisk (state S.Store conn.new)
+        → IsBelowZero (state S.Store conn.old).now
+        → OnOk result ⊥ × IfErr result IsOfRowOrDisk }
+    ensures same { HasCleanDisk (state S.Store conn.new)
+        → OnOk result (IsUnchanged (state S.Store conn.old) (state S.Store conn.new)) }
+    ensures mode { conn.old.in_transaction ≡ false → conn.new.in_transaction ≡ false }
+    ensures still { HasCleanDisk (state S.Store conn.new)
+        → conn.old.in_transaction ≡ false → IsTrue (state S.Store conn.new).is_open
+        → IsStill (state S.Store conn.old) (state S.Store conn.new) }
+    ensures cause { HasCleanDisk (state S.Store conn.new)
+        → TellsNumberOrNone (state S.Store conn.old).now → IfErr result IsOfDisk }
+    ensures clean { HasCleanDisk (state S.Store conn.new) → HasCleanDisk (state S.Store conn.old) }
+    ensures survives { Survives (state S.Store conn.old) (state S.Store conn.new) (λ _. ⊥) }
 {
     // For what it says of a connection outside of a transaction.
     let _outside = conn.is_autocommit();
     match conn.query_row("SELECT schema FROM meta WHERE one = 1", &[]) {
         Ok(row) => number_in(&row),
-        Err(Error::SqlInputError(_)) => Ok(None),
         Err(Error::QueryReturnedNoRows) => Ok(None),
         Err(error) => Err(fault_of(error)),
     }

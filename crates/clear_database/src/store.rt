@@ -6,10 +6,9 @@ ghost use Rattle.sqlite.specs.Tree.{Trees};
 ghost use Rattle.clear_values.specs.Tables.{Tables};
 ghost use Rattle.clear_schema.specs.Faults.{IsOfDisk, IsWrong, TellsOutOfRange, other_layout};
 ghost use Rattle.clear_database.specs.First.{first_tables};
-ghost use Rattle.clear_schema.specs.Held.{HasMeta, HasTables, StandsFor, StandsOtherwise, TellsAs};
+ghost use Rattle.clear_schema.specs.Held.{HasTables, StandsFor, StandsOtherwise, TellsAs};
 ghost use Rattle.clear_schema.specs.Held.{TellsSchema, this_schema};
-ghost use Rattle.clear_database.specs.Opening.{HasMetaOrNothing, IsBelowZero};
-ghost use Rattle.clear_database.specs.Opening.{TellsNoNumber, TellsNumberOrNone};
+ghost use Rattle.clear_database.specs.Opening.{IsBelowZero, TellsNoNumber, TellsNumberOrNone};
 ghost use Rattle.clear_schema.specs.Schema.{no_schema, store_schema};
 ghost use Rattle.clear_database.specs.Still.{IsStill};
 
@@ -38,8 +37,8 @@ pub struct Refusal<S: Alter> {
 impl<S: Alter> Store<S> {
     /// Makes the tables of an office without requests in an empty database, with its opening rates,
     /// in one transaction. A database that has a table, an index or a view is refused: where it tells a
-    /// number in `meta`, by `WrongVersion` with that one, and with 0 where `meta` has no row. Nothing
-    /// changes where a `meta` stands first, whatever it tells. A refusal hands the connection back.
+    /// number in `meta`, by `WrongVersion` with that one, and otherwise with 0. A refusal leaves any
+    /// database as it was, and hands the connection back.
     pub fn create(connection: Connection<S>, rates: &RateTable) -> Result<Store<S>, Refusal<S>>
         requires { connection.in_transaction ≡ false }
         ensures mode { IfOk result (λ store. store.conn.in_transaction ≡ false) }
@@ -58,30 +57,24 @@ impl<S: Alter> Store<S> {
         ensures crash_left { (state S.Store connection).now.schema ≡ no_schema
             → IfErr result (λ left. Survives (state S.Store connection)
             (state S.Store left.connection) (StandsFor (first_tables rates.now))) }
-        ensures undone { IfErr result (λ left. HasCleanDisk (state S.Store left.connection)
-            → (state S.Store connection).now.schema ≡ no_schema
-            → IsTrue (state S.Store left.connection).is_open
-            → ((state S.Store left.connection).now ≡ (state S.Store connection).committed)
-            × ((state S.Store left.connection).committed ≡ (state S.Store connection).committed)) }
         ensures empty { IfErr result (λ left. HasCleanDisk (state S.Store left.connection)
             → (state S.Store connection).now.schema ≡ no_schema
             → (told : ℕ) → left.fault ≢ OpenFault.WrongVersion told) }
         ensures there { IfErr result (λ left. HasCleanDisk (state S.Store left.connection)
             → (number : ℕ) → TellsSchema number (state S.Store connection).now
             → (told : ℕ) → left.fault ≡ OpenFault.WrongVersion told → told ≡ number) }
-        // Of a `meta` without a row no number is told but 0.
+        // No number is told but 0 where no `meta` of ours stands first, or it has no row.
         ensures no_number { IfErr result (λ left. HasCleanDisk (state S.Store left.connection)
             → TellsNoNumber (state S.Store connection).now
             → (told : ℕ) → left.fault ≡ OpenFault.WrongVersion told → told ≡ 0) }
         ensures only_empty { OnOk result ((state S.Store connection).now.schema ≡ no_schema) }
         ensures below_zero { IfErr result (λ left. HasCleanDisk (state S.Store left.connection)
             → IsBelowZero (state S.Store connection).now → TellsOutOfRange left.fault) }
-        // Nothing changes where `meta` stands first, whatever it tells.
+        // A refusal changes nothing, whatever the database is.
         ensures rests { IfErr result (λ left. HasCleanDisk (state S.Store left.connection)
-            → HasMeta (state S.Store connection).now.schema
             → IsTrue (state S.Store left.connection).is_open
             → IsStill (state S.Store connection) (state S.Store left.connection)) }
-        ensures rests_after { HasMeta (state S.Store connection).now.schema
+        ensures rests_after { (state S.Store connection).now.schema ≢ no_schema
             → IfErr result (λ left. Survives (state S.Store connection)
             (state S.Store left.connection) (λ _. ⊥)) }
         ensures cause { IfErr result (λ left. HasCleanDisk (state S.Store left.connection)
@@ -100,9 +93,8 @@ impl<S: Alter> Store<S> {
     }
 
     /// Finds the store in a database that it was made in. Where the database tells our number, but has
-    /// other tables or indexes than ours, `Failed(Fault::Store(StoreCause::Other))`. A refusal changes
-    /// nothing where a `meta` stands first, whatever it tells, or where nothing is there, and hands the
-    /// connection back.
+    /// other tables or indexes than ours, `Failed(Fault::Store(StoreCause::Other))`. An open changes
+    /// nothing, whatever the database is, and a refusal hands the connection back.
     pub fn open(connection: Connection<S>) -> Result<Store<S>, Refusal<S>>
         requires { connection.in_transaction ≡ false }
         ensures mode { IfOk result (λ store. store.conn.in_transaction ≡ false) }
@@ -145,31 +137,16 @@ impl<S: Alter> Store<S> {
             → HasCleanDisk (state S.Store connection)) }
         ensures clean_left { IfErr result (λ left. HasCleanDisk (state S.Store left.connection)
             → HasCleanDisk (state S.Store connection)) }
-        // Nothing changes in a database that is refused, where it tells a number.
+        // Nothing changes, whatever the database is.
         ensures still { IfErr result (λ left. HasCleanDisk (state S.Store left.connection)
-            → (number : ℕ) → TellsAs number (state S.Store connection).committed.trees
-            → IsTrue (state S.Store connection).is_open
             → IsTrue (state S.Store left.connection).is_open
             → IsStill (state S.Store connection) (state S.Store left.connection)) }
-        ensures survives { (number : ℕ)
-            → TellsAs number (state S.Store connection).committed.trees
-            → IsTrue (state S.Store connection).is_open → IfOk result (λ store.
+        ensures same { IfOk result (λ store. HasCleanDisk (state S.Store store.conn)
+            → IsStill (state S.Store connection) (state S.Store store.conn)) }
+        ensures survives { IfOk result (λ store.
             Survives (state S.Store connection) (state S.Store store.conn) (λ _. ⊥)) }
-        ensures survives_left { (number : ℕ)
-            → TellsAs number (state S.Store connection).committed.trees
-            → IsTrue (state S.Store connection).is_open → IfErr result (λ left.
+        ensures survives_left { IfErr result (λ left.
             Survives (state S.Store connection) (state S.Store left.connection) (λ _. ⊥)) }
-        // Nor does anything where `meta` stands first, whatever it tells, or in an empty database.
-        ensures rests { IfErr result (λ left. HasCleanDisk (state S.Store left.connection)
-            → HasMetaOrNothing (state S.Store connection).now.schema
-            → IsTrue (state S.Store left.connection).is_open
-            → IsStill (state S.Store connection) (state S.Store left.connection)) }
-        ensures rests_after { HasMetaOrNothing (state S.Store connection).now.schema
-            → IfOk result (λ store. Survives (state S.Store connection)
-            (state S.Store store.conn) (λ _. ⊥)) }
-        ensures rests_left { HasMetaOrNothing (state S.Store connection).now.schema
-            → IfErr result (λ left. Survives (state S.Store connection)
-            (state S.Store left.connection) (λ _. ⊥)) }
     {
         let mut connection = connection;
         match open_tables(&mut connection) {

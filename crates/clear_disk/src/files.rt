@@ -5,9 +5,8 @@ ghost use Rattle.sqlite.specs.State.{HasCleanDisk};
 ghost use Rattle.sqlite.specs.Tree.{Trees};
 ghost use Rattle.sqlite.specs.WalReads.{AreClean};
 ghost use Rattle.clear_values.specs.Tables.{Tables};
-ghost use Rattle.clear_schema.specs.Faults.{IsOfDisk, IsWrong, other_layout};
-ghost use Rattle.clear_schema.specs.Held.{HasTables, StandsFor, StandsOtherwise, TellsAs};
-ghost use Rattle.clear_schema.specs.Held.{this_schema};
+ghost use Rattle.clear_schema.specs.Faults.{IsOfDisk, IsWrong};
+ghost use Rattle.clear_schema.specs.Held.{HasTables, StandsFor, TellsAs, this_schema};
 ghost use Rattle.clear_disk.specs.Opening.{IfNotTaken, IfUnopened};
 ghost use Rattle.clear_database.specs.Still.{IsFound};
 ghost use Rattle.clear_schema.specs.declared.fault.OpenFault.TheVariants.{WrongVersion};
@@ -44,8 +43,8 @@ pub enum FilesRefusal<D: Disk + Drop> {
     NotTaken(Refusal<FileStore<D>>),
 }
 
-/// Opens the store that the two files hold.
-pub fn open_files<D: Disk + Drop>(
+// Opens the store that the two files hold.
+fn open_files<D: Disk + Drop>(
     alloc: Global,
     files: Files<D>,
     options: Options,
@@ -69,31 +68,12 @@ pub fn open_files<D: Disk + Drop>(
         → (number : ℕ) (trees : Trees)
         → HoldsDatabase (image_of D.Disk files) trees → TellsAs number trees
         → IsWrong this_schema number refusal.fault)) }
-    ensures right { IfOk result (λ store. HasCleanDisk (file_state store.conn)
-        → (number : ℕ) (trees : Trees)
-        → HoldsDatabase (image_of D.Disk files) trees → TellsAs number trees
-        → number ≡ this_schema) }
-    ensures not_other { IfOk result (λ store. HasCleanDisk (file_state store.conn)
-        → (trees : Trees) → HoldsDatabase (image_of D.Disk files) trees
-        → ¬ StandsOtherwise trees) }
-    ensures other { IfErr result (IfNotTaken (λ refusal.
-        HasCleanDisk (file_state refusal.connection)
-        → (trees : Trees) → HoldsDatabase (image_of D.Disk files) trees → StandsOtherwise trees
-        → refusal.fault ≢ OpenFault.Failed Fault.Memory → refusal.fault ≡ other_layout)) }
     // No key and no row is to blame for a fault.
     ensures cause { IfErr result (IfNotTaken (λ refusal.
         HasCleanDisk (file_state refusal.connection)
         → (number : ℕ) (trees : Trees)
         → HoldsDatabase (image_of D.Disk files) trees → TellsAs number trees
         → (why : Fault) → refusal.fault ≡ OpenFault.Failed why → IsOfDisk why)) }
-    // A database that tells the number of a schema is left as it was.
-    ensures rests { IfErr result (IfNotTaken (λ refusal.
-        HasCleanDisk (file_state refusal.connection)
-        → (number : ℕ) (trees : Trees)
-        → HoldsDatabase (image_of D.Disk files) trees → TellsAs number trees
-        → IsTrue (file_state refusal.connection).is_open
-        → ((file_state refusal.connection).now.trees ≡ trees)
-        × ((file_state refusal.connection).committed.trees ≡ trees))) }
     ensures unopened { IfErr result (IfUnopened IsOfDisk) }
 {
     let conn = match Connection::open_files(alloc, files, options) {

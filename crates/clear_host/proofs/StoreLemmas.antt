@@ -1,8 +1,9 @@
 -- What a connection on files sees, by what the files hold.
-use Rattle.std.proofs.Common.{◌≡◌, ◌≢◌, ◌⊎◌, ◌∙◌, ℕ, IsTrue, ap, inl, inr, refl, sym, subst}
+use Rattle.std.proofs.Common.{◌≡◌, ◌≢◌, ◌∙◌, ℕ, IsTrue, ap, inl, inr, refl, sym, subst}
 use Rattle.sqlite_wal.specs.Recovery.{Image}
 use Rattle.sqlite.specs.Effect.{Database, IsDatabase}
 use Rattle.sqlite.specs.Files.{AreFoundIn, HoldsDatabase, IsNothing}
+use Rattle.sqlite.specs.Schema.{Schema}
 use Rattle.sqlite.specs.State.{State}
 use Rattle.sqlite.specs.Tree.{Trees}
 use Rattle.clear_book.specs.Tables.{Tables}
@@ -10,17 +11,15 @@ use Rattle.clear_schema.specs.Held.{HasObjects, HasOtherLayout, HasTables, Stand
 use Rattle.clear_schema.specs.Schema.{no_schema, this_layout}
 use Rattle.clear_disk.specs.Seen.{SeesIn}
 use Rattle.clear_disk.proofs.SeenLemmas.{bare_seen, nothing_seen}
-use Rattle.clear_database.specs.Opening.{HasMetaOrNothing, IsBelowZero, TellsNoNumber, TellsNumberOrNone}
+use Rattle.clear_database.specs.Opening.{IsBelowZero, TellsNoNumber, TellsNumberOrNone}
 use Rattle.clear_database.specs.Still.{IsStill}
 use Rattle.clear_database.proofs.OpenLemmas.{is_seen, other_seen, tells_as, tells_seen}
 use Rattle.clear_host.specs.Contents.{AreBlameless, HasJust, HaveObjects, HoldsBelowZero, HoldsNoNumber, HoldsNone, HoldsNumberOrNone, HoldsObjects, HoldsOtherLayout, HoldsSchema, HoldsStore, IsBare}
 use Rattle.clear_host.specs.Offices.{IsOurs}
 
--- a database that tells no number, or one below 0, has a `meta` as its first table, or none
-pub meta_or_none : (db : Database) → TellsNoNumber db ⊎ IsBelowZero db → HasMetaOrNothing db.schema
-meta_or_none db (inl (inl none)) = inr none
-meta_or_none db (inl (inr (meta, rows))) = inl meta
-meta_or_none db (inr below) = inl below.0
+-- an empty database tells no number
+pub none_told : (db : Database) → db.schema ≡ no_schema → TellsNoNumber db
+none_told db none = inl (λ has. let tables = sym has.1 ∙ ap (λ (s : Schema). s.tables) none in cc)
 
 -- a database with this property, that an open finds by its trees
 abbrev IsSound : (Database → Type 0) → Database → Type 0
@@ -56,7 +55,7 @@ module _ (image : Image) (s : State) (seen : SeesIn image s) where
       (is_seen (IsSound P) (λ _ it. it.1) s seen.opened.0.clean seen.opened.1 seen.opened.0.is_open (subst (HaveSound P) (sym (seen.holds db.trees holds)) (db, (is, sound), refl))).0
 
   pub unnumbered_seen : HoldsNoNumber image → TellsNoNumber s.now
-  unnumbered_seen (inl nothing) = inl (nothing_seen image s seen nothing)
+  unnumbered_seen (inl nothing) = none_told s.now (nothing_seen image s seen nothing)
   unnumbered_seen (inr (db, holds, is, sound)) = one_seen TellsNoNumber db holds is sound
 
   pub below_seen : HoldsBelowZero image → IsBelowZero s.now
@@ -93,10 +92,6 @@ module _ (image : Image) (s : State) (seen : SeesIn image s) where
   just_seen trees holds new still =
       (ap (λ (d : Database). d.trees) (still.now_is ∙ seen.opened.0.clean) ∙ seen.holds trees holds, ap (λ (d : Database). d.trees) still.committed_is ∙ seen.holds trees holds)
 
-  -- whatever stands in a `meta` that is the first table, if there is a table
-  pub meta_seen : (db : Database) → HoldsDatabase image db.trees → IsDatabase db → HasMetaOrNothing db.schema → HasMetaOrNothing s.now.schema
-  meta_seen db holds sound is = one_seen (λ d. HasMetaOrNothing d.schema) db holds is sound
-
   -- and no table, where they hold nothing
   pub bare_still : IsNothing image → (new : State) → IsStill s new → IsBare new
   bare_still nothing new still =
@@ -113,7 +108,7 @@ module _ (image : Image) (s : State) (seen : SeesIn image s) where
   pub ours_seen : ¬ TellsNoNumber s.now → ((number : ℕ) → TellsAs number s.committed.trees → IsTrue s.is_open → number ≡ this_schema)
       → (IsTrue s.is_open → ¬ StandsOtherwise s.committed.trees) → ¬ IsBelowZero s.now → IsOurs image
   ours_seen numbered right not_other not_below = record {
-    recovers = found_seen (λ none. numbered (inl none));
+    recovers = found_seen (λ none. numbered (none_told s.now none));
     only_this = λ number holds. right number (told_seen number holds).0 seen.opened.0.is_open;
     not_other = λ holds. not_other seen.opened.0.is_open (other_is_seen holds);
     only_stores = λ none. numbered (unnumbered_seen none);

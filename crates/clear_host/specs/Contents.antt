@@ -19,7 +19,7 @@ use Rattle.clear_schema.specs.Values.{counts_of}
 use Rattle.clear_schema.specs.declared.fault.Fault.TheVariants.{Memory}
 use Rattle.clear_schema.specs.declared.fault.OpenFault.{OpenFault}
 use Rattle.clear_schema.specs.declared.fault.OpenFault.TheVariants.{WrongVersion, Failed}
-use Rattle.clear_database.specs.Opening.{HasMetaOrNothing, IsBelowZero, TellsNoNumber}
+use Rattle.clear_database.specs.Opening.{IsBelowZero, TellsNoNumber}
 use Rattle.clear_disk.specs.Seen.{IsUnmade}
 use Rattle.clear_firms.specs.Counts.{AreCounts}
 use Rattle.clear_host.specs.Hindrances.{hindrance_of}
@@ -34,7 +34,7 @@ abbrev pub HoldsSchema : ℕ → Image → Type 0
 HoldsSchema number image =
     (trees : Trees) × HoldsDatabase image trees × TellsAs number trees
 
--- they hold nothing, or a database that is empty or has a `meta` without a row
+-- they hold nothing, or a database without a `meta` of ours as its first table, or without a row in it
 abbrev pub HoldsNoNumber : Image → Type 0
 HoldsNoNumber image = IsNothing image
     ⊎ ((db : Database) × HoldsDatabase image db.trees × TellsNoNumber db × IsDatabase db)
@@ -133,11 +133,10 @@ abbrev pub LeavesSchema : {S : Type 0} (g : Ghosts S) → Image → NotOpened S 
 LeavesSchema g image refused = (number : ℕ) (trees : Trees) → HoldsDatabase image trees
     → TellsAs number trees → IfOpen g (HasJust trees) refused
 
--- a database that they hold, with a `meta` as its first table or without any, is left as it was,
--- whatever that tells
+-- a database that they hold is left as it was, whatever it is
 abbrev pub LeavesAlone : {S : Type 0} (g : Ghosts S) → Image → NotOpened S → Type 0
 LeavesAlone g image refused = (db : Database) → HoldsDatabase image db.trees → IsDatabase db
-    → HasMetaOrNothing db.schema → IfOpen g (HasJust db.trees) refused
+    → IfOpen g (HasJust db.trees) refused
 
 -- where they hold nothing, no table is made
 abbrev pub MakesNone : {S : Type 0} (g : Ghosts S) → Image → NotOpened S → Type 0

@@ -64,7 +64,7 @@ pub struct NotOpened<S: Alter> {
 
 /// Makes a store without requests, with these opening rates, in an empty database, and an office
 /// over it. A database that has a table, an index or a view is refused: where it tells the number of a
-/// schema, by `WrongVersion` with that one. A refusal leaves an empty one empty.
+/// schema, by `WrongVersion` with that one. A refusal leaves any database as it was.
 pub(crate) fn new_office<S: Alter>(
     alloc: Global,
     connection: Connection<S>,

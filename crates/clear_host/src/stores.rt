@@ -33,7 +33,7 @@ const OWNER_ALONE: u32 = 0o600;
 /// Makes a store without requests, with these opening rates, and an office over it, at a path where
 /// no file is, or an empty one, or one that an earlier call left half made. A database that has a
 /// table, an index or a view is refused: where it tells the number of a schema, by `WrongVersion` with
-/// that one, and it is left as it was. A refusal leaves an empty file without tables. It blames no key
+/// that one. A refusal leaves any database as it was, and an empty file without tables. It blames no key
 /// and no row where the files hold nothing, or a database that tells a number or none.
 ///
 /// A file that is made can be read and written by its owner alone, and its log too.

@@ -4,8 +4,7 @@ ghost use Rattle.sqlite.specs.Held.{state};
 ghost use Rattle.sqlite.specs.State.{HasCleanDisk, Survives};
 ghost use Rattle.clear_schema.specs.Faults.{IsOfDisk, IsWrong, other_layout};
 ghost use Rattle.clear_schema.specs.Held.{HasOtherLayout, TellsSchema, this_schema};
-ghost use Rattle.clear_database.specs.Opening.{HasMetaOrNothing, IsBelowZero};
-ghost use Rattle.clear_database.specs.Opening.{TellsNoNumber, TellsNumberOrNone};
+ghost use Rattle.clear_database.specs.Opening.{IsBelowZero, TellsNoNumber, TellsNumberOrNone};
 ghost use Rattle.clear_schema.specs.Schema.{store_schema};
 ghost use Rattle.clear_database.specs.Still.{IsStill};
 ghost use Rattle.clear_migrate.specs.Answered.{AnswersOrFails};
@@ -25,9 +24,10 @@ pub enum Migration {
 }
 
 /// The number of its schema that a database tells, in the row of its first table `meta`, whichever
-/// number that is and whatever other tables there are. `WrongVersion` with 0 where the
-/// database is empty, `Failed(Fault::Store(StoreCause::Row))` for a number below 0. Nothing changes
-/// where a `meta` stands first, or where nothing is there.
+/// number that is and whatever other tables there are. `WrongVersion` with 0 where no such `meta` stands
+/// first, as in an empty database or another program's, or it has no row;
+/// `Failed(Fault::Store(StoreCause::Row))` for a number below 0. Nothing changes, whatever the database
+/// is.
 pub fn version<S: Alter>(conn: &mut Connection<S>) -> Result<u64, OpenFault>
     ensures told { HasCleanDisk (state S.Store conn.new)
         → (number : ℕ) → TellsSchema number (state S.Store conn.old).now
@@ -39,15 +39,12 @@ pub fn version<S: Alter>(conn: &mut Connection<S>) -> Result<u64, OpenFault>
         → IsBelowZero (state S.Store conn.old).now
         → AnswersOrFails (Err (OpenFault.Failed (Fault.Store StoreCause.Row))) result }
     ensures open { HasCleanDisk (state S.Store conn.new)
-        → HasMetaOrNothing (state S.Store conn.old).now.schema
         → OnOk result (IsTrue (state S.Store conn.new).is_open) }
     ensures mode { conn.old.in_transaction ≡ false → conn.new.in_transaction ≡ false }
     ensures still { HasCleanDisk (state S.Store conn.new)
-        → conn.old.in_transaction ≡ false → HasMetaOrNothing (state S.Store conn.old).now.schema
-        → IsTrue (state S.Store conn.new).is_open
+        → conn.old.in_transaction ≡ false → IsTrue (state S.Store conn.new).is_open
         → IsStill (state S.Store conn.old) (state S.Store conn.new) }
-    ensures survives { HasMetaOrNothing (state S.Store conn.old).now.schema
-        → Survives (state S.Store conn.old) (state S.Store conn.new) (λ _. ⊥) }
+    ensures survives { Survives (state S.Store conn.old) (state S.Store conn.new) (λ _. ⊥) }
     ensures clean { HasCleanDisk (state S.Store conn.new) → HasCleanDisk (state S.Store conn.old) }
 {
     match found_schema(conn) {
@@ -60,8 +57,8 @@ pub fn version<S: Alter>(conn: &mut Connection<S>) -> Result<u64, OpenFault>
 /// Brings a store to this program's schema. That is done where the database tells its number and has
 /// its tables and indexes, and no others: then `Store::open` takes it. `WrongVersion` with the number
 /// in `meta`, 0 without one, where that is another one, and `Failed(Fault::Store(StoreCause::Other))`
-/// where the number is ours, but tables or indexes are others than ours. Nothing changes where a
-/// `meta` stands first, or where nothing is there.
+/// where the number is ours, but tables or indexes are others than ours. Nothing changes, whatever the
+/// database is.
 pub fn to_current<S: Alter>(conn: &mut Connection<S>) -> Result<Migration, OpenFault>
     requires { conn.old.in_transaction ≡ false }
     ensures mode { conn.new.in_transaction ≡ false }
@@ -92,14 +89,11 @@ pub fn to_current<S: Alter>(conn: &mut Connection<S>) -> Result<Migration, OpenF
         → OnOk result (number ≡ this_schema) }
     ensures only_ours { OnOk result ((state S.Store conn.old).now.schema ≡ store_schema) }
     ensures open { HasCleanDisk (state S.Store conn.new)
-        → HasMetaOrNothing (state S.Store conn.old).now.schema
         → OnOk result (IsTrue (state S.Store conn.new).is_open) }
     ensures still { HasCleanDisk (state S.Store conn.new)
-        → HasMetaOrNothing (state S.Store conn.old).now.schema
         → IsTrue (state S.Store conn.new).is_open
         → IsStill (state S.Store conn.old) (state S.Store conn.new) }
-    ensures survives { HasMetaOrNothing (state S.Store conn.old).now.schema
-        → Survives (state S.Store conn.old) (state S.Store conn.new) (λ _. ⊥) }
+    ensures survives { Survives (state S.Store conn.old) (state S.Store conn.new) (λ _. ⊥) }
     ensures clean { HasCleanDisk (state S.Store conn.new) → HasCleanDisk (state S.Store conn.old) }
 {
     let ours = has_this_layout(conn.schema());

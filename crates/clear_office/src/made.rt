@@ -5,7 +5,7 @@ ghost use Rattle.sqlite.specs.State.{HasCleanDisk, Survives};
 ghost use Rattle.clear_book.specs.Book.{first_book};
 ghost use Rattle.clear_schema.specs.Faults.{IsOfDisk, TellsOutOfRange};
 ghost use Rattle.clear_database.specs.First.{first_tables};
-ghost use Rattle.clear_schema.specs.Held.{HasMeta, StandsFor, TellsSchema};
+ghost use Rattle.clear_schema.specs.Held.{StandsFor, TellsSchema};
 ghost use Rattle.clear_database.specs.Opening.{IsBelowZero, TellsNoNumber, TellsNumberOrNone};
 ghost use Rattle.clear_schema.specs.Schema.{no_schema};
 ghost use Rattle.clear_schema.specs.declared.fault.Fault.{Fault};
@@ -22,7 +22,7 @@ use std::alloc::Global;
 /// Makes a store without requests, with these opening rates, in an empty database, and an office
 /// over it. The connection stands in no transaction. A database that has a table, an index or a view is
 /// refused: where it tells the number of a schema, by `WrongVersion` with that one. A refusal hands the
-/// connection back, and leaves an empty database, and one where a `meta` stands first, as it was.
+/// connection back, and leaves any database as it was.
 pub fn make_office<S: Alter>(
     alloc: Global,
     connection: Connection<S>,
@@ -47,7 +47,7 @@ pub fn make_office<S: Alter>(
     ensures there { IfErr result (λ left. HasCleanDisk (state S.Store left.connection)
         → (number : ℕ) → TellsSchema number (state S.Store connection).now
         → (told : ℕ) → left.fault ≡ WrongVersion told → told ≡ number) }
-    // Of a `meta` without a row no number is told but 0.
+    // No number is told but 0 where no `meta` of ours stands first, or it has no row.
     ensures no_number { IfErr result (λ left. HasCleanDisk (state S.Store left.connection)
         → TellsNoNumber (state S.Store connection).now
         → (told : ℕ) → left.fault ≡ WrongVersion told → told ≡ 0) }
@@ -61,24 +61,17 @@ pub fn make_office<S: Alter>(
     ensures cause { IfErr result (λ left. HasCleanDisk (state S.Store left.connection)
         → TellsNumberOrNone (state S.Store connection).now
         → (why : Fault) → left.fault ≡ Failed why → IsOfDisk why) }
-    // A refusal takes back what was begun in an empty database, and a crash leaves what it could leave
-    // before, or the tables of an office without requests.
-    ensures undone { IfErr result (λ left. HasCleanDisk (state S.Store left.connection)
-        → (state S.Store connection).now.schema ≡ no_schema
+    // A refusal leaves any database as it was. A crash leaves what it could leave before, or, of an
+    // empty database, the tables of an office without requests.
+    ensures rests { IfErr result (λ left. HasCleanDisk (state S.Store left.connection)
         → IsTrue (state S.Store left.connection).is_open
-        → ((state S.Store left.connection).now ≡ (state S.Store connection).committed)
-        × ((state S.Store left.connection).committed ≡ (state S.Store connection).committed)) }
+        → IsStill (state S.Store connection) (state S.Store left.connection)) }
+    ensures rests_after { (state S.Store connection).now.schema ≢ no_schema
+        → IfErr result (λ left. Survives (state S.Store connection)
+        (state S.Store left.connection) (λ _. ⊥)) }
     ensures crash_left { (state S.Store connection).now.schema ≡ no_schema
         → IfErr result (λ left. Survives (state S.Store connection)
         (state S.Store left.connection) (StandsFor (first_tables rates.now))) }
-    // Nothing changes where a `meta` stands first, whatever it tells.
-    ensures rests { IfErr result (λ left. HasCleanDisk (state S.Store left.connection)
-        → HasMeta (state S.Store connection).now.schema
-        → IsTrue (state S.Store left.connection).is_open
-        → IsStill (state S.Store connection) (state S.Store left.connection)) }
-    ensures rests_after { HasMeta (state S.Store connection).now.schema
-        → IfErr result (λ left. Survives (state S.Store connection)
-        (state S.Store left.connection) (λ _. ⊥)) }
 {
     let store = Store::create(connection, rates)?;
     Ok(Office::open(alloc, store))

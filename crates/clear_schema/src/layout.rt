@@ -6,25 +6,28 @@ use clear_rows::laid::ColumnLayout::{Blob, Int, MaybeInt, Text};
 use clear_rows::laid::{IndexLayout, KeyLayout, TableLayout, are};
 use sqlite_schema::schema::Schema;
 
+/// The table that tells the number of the schema, in this one and in each later one.
+pub const META: TableLayout = TableLayout {
+    name: "meta",
+    tree: 0,
+    key: Some(0),
+    primary: &[0],
+    uniques: &[],
+    columns: &[
+        MaybeInt("one"),
+        Int("schema"),
+        MaybeInt("day"),
+        Int("entries"),
+        Int("serial"),
+        Int("claims"),
+        Int("lists"),
+        Int("runs"),
+    ],
+};
+
 // The tables, in the order in which they are made.
 const TABLES: &'static [TableLayout] = &[
-    TableLayout {
-        name: "meta",
-        tree: 0,
-        key: Some(0),
-        primary: &[0],
-        uniques: &[],
-        columns: &[
-            MaybeInt("one"),
-            Int("schema"),
-            MaybeInt("day"),
-            Int("entries"),
-            Int("serial"),
-            Int("claims"),
-            Int("lists"),
-            Int("runs"),
-        ],
-    },
+    META,
     TableLayout {
         name: "rates",
         tree: 1,

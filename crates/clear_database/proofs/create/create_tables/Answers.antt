@@ -5,6 +5,7 @@ use Rattle.sqlite.specs.Tree.{Trees}
 use Rattle.clear_rows.specs.Stands.{Stands}
 use Rattle.clear_rows.proofs.Reopened.{commits_survive, stands_alone, not_committed}
 use Rattle.clear_database.specs.First.{first_tables}
+use Rattle.clear_database.proofs.ConfirmLemmas.{not_committed_open}
 use Rattle.clear_schema.specs.Held.{HasTables}
 use Rattle.clear_schema.specs.Schema.{no_schema}
 use Rattle.clear_database.proofs.create.create_tables.Goals as goal
@@ -64,4 +65,15 @@ returns-in-Err-clause-undone g c =
     let done : HasCleanDisk end → IsTrue end.is_open → (end.now ≡ old.committed) × (end.committed ≡ old.committed) = λ clean on.
     let before : HasCleanDisk last = omega (arith, c.commit.ensures.survives.clean) in
     not_committed (state g.S.Store (record c.args.conn.now { in_transaction = true })) last end (rw begun at (c.in_ok-put_first.ensures.kept before)) on _ (c.in_ok-put_first.ensures.goes_on before) (c.in-Err.ensures.err clean) in
+    search (rules, done)
+
+pub returns-in-Err-clause-was_open : goal.returns-in-Err-clause-was_open
+returns-in-Err-clause-was_open g c =
+    let begun = c.transaction-tx.ensures.begun in
+    let old = state g.S.Store c.args.conn.now in
+    let last = state g.S.Store c.put_first.new.tx.conn.now in
+    let end = state g.S.Store c.commit.new.self.0 in
+    let done : HasCleanDisk end → IsTrue end.is_open → IsTrue old.is_open = λ clean on.
+    let before : HasCleanDisk last = omega (arith, c.commit.ensures.survives.clean) in
+    not_committed_open (state g.S.Store (record c.args.conn.now { in_transaction = true })) last end (rw begun at (c.in_ok-put_first.ensures.kept before)) on _ (c.in_ok-put_first.ensures.goes_on before) (c.in-Err.ensures.err clean) in
     search (rules, done)

@@ -1,4 +1,4 @@
-use Rattle.std.proofs.Common.{◌≡◌, ◌∙◌, inl, inr, arith, sym}
+use Rattle.std.proofs.Common.{◌≡◌, ◌∙◌, inr, arith, sym}
 use Rattle.std.proofs.lemmas.Result.{on_ok_weaker}
 use Rattle.sqlite.specs.Held.{state}
 use Rattle.clear_schema.specs.Held.{HasTables, this_schema}
@@ -11,7 +11,7 @@ returns-then-number-eq-SCHEMA-clause-found g c clean t stands is_open =
     let old = state g.S.Store c.args.conn.now in
     let settled = c.is_autocommit-outside.ensures.settled (rw (c.is_autocommit-outside.ensures.value, c.requires)) is_open in
     let has = is_seen (HasTables t) (λ _ it. it.sound) old settled c.schema-schema.ensures.live is_open stands in
-    on_ok c.taken_if.result _ (still (HasTables t) (λ _ it. it.sound) old settled c.schema-schema.ensures.live is_open stands (state g.S.Store c.found_schema.new.conn) (c.in-Ok.ensures.same clean (inl (store_tells this_layout t old.now has).meta)))
+    on_ok c.taken_if.result _ (still (HasTables t) (λ _ it. it.sound) old settled c.schema-schema.ensures.live is_open stands (state g.S.Store c.found_schema.new.conn) (c.in-Ok.ensures.same clean (store_tells this_layout t old.now has).meta))
 
 pub returns-then-number-eq-SCHEMA-clause-version : goal.returns-then-number-eq-SCHEMA-clause-version
 returns-then-number-eq-SCHEMA-clause-version g c clean number stands is_open =
@@ -39,57 +39,9 @@ returns-in-None-clause-version g c clean number stands is_open =
     let found = c.in-Ok.ensures.found clean number has in
     absurd (let is = c.in-None.is in cc)
 
-pub returns-in-Err-clause-survives : goal.returns-in-Err-clause-survives
-returns-in-Err-clause-survives g c number stands is_open =
-    let old = state g.S.Store c.args.conn.now in
-    let settled = c.is_autocommit-outside.ensures.settled (rw (c.is_autocommit-outside.ensures.value, c.requires)) is_open in
-    c.found_schema.ensures.survives (inl (tells_seen number old settled c.schema-schema.ensures.live is_open stands).meta)
-
-pub returns-then-number-eq-SCHEMA-clause-survives : goal.returns-then-number-eq-SCHEMA-clause-survives
-returns-then-number-eq-SCHEMA-clause-survives g c number stands is_open =
-    let old = state g.S.Store c.args.conn.now in
-    let settled = c.is_autocommit-outside.ensures.settled (rw (c.is_autocommit-outside.ensures.value, c.requires)) is_open in
-    c.found_schema.ensures.survives (inl (tells_seen number old settled c.schema-schema.ensures.live is_open stands).meta)
-
-pub returns-else-number-eq-SCHEMA-clause-survives : goal.returns-else-number-eq-SCHEMA-clause-survives
-returns-else-number-eq-SCHEMA-clause-survives g c number stands is_open =
-    let old = state g.S.Store c.args.conn.now in
-    let settled = c.is_autocommit-outside.ensures.settled (rw (c.is_autocommit-outside.ensures.value, c.requires)) is_open in
-    c.found_schema.ensures.survives (inl (tells_seen number old settled c.schema-schema.ensures.live is_open stands).meta)
-
-pub returns-in-None-clause-survives : goal.returns-in-None-clause-survives
-returns-in-None-clause-survives g c number stands is_open =
-    let old = state g.S.Store c.args.conn.now in
-    let settled = c.is_autocommit-outside.ensures.settled (rw (c.is_autocommit-outside.ensures.value, c.requires)) is_open in
-    c.found_schema.ensures.survives (inl (tells_seen number old settled c.schema-schema.ensures.live is_open stands).meta)
-
 pub returns-then-number-eq-SCHEMA-clause-open : goal.returns-then-number-eq-SCHEMA-clause-open
 returns-then-number-eq-SCHEMA-clause-open g c clean =
-    on_ok_weaker c.taken_if.result (λ ours. (c.in-Ok.ensures.same clean (inl (ours_begins (state g.S.Store c.args.conn.now).now.schema (sym c.schema-schema.ensures.value ∙ c.has_this_layout-ours.ensures.0 ours)))).0.is_open) c.taken_if.ensures.ok
-
-pub returns-in-Err-clause-still : goal.returns-in-Err-clause-still
-returns-in-Err-clause-still g c clean number stands is_open on =
-    let old = state g.S.Store c.args.conn.now in
-    let settled = c.is_autocommit-outside.ensures.settled (rw (c.is_autocommit-outside.ensures.value, c.requires)) is_open in
-    c.found_schema.ensures.still clean c.requires (inl (tells_seen number old settled c.schema-schema.ensures.live is_open stands).meta) on
-
-pub returns-then-number-eq-SCHEMA-clause-still : goal.returns-then-number-eq-SCHEMA-clause-still
-returns-then-number-eq-SCHEMA-clause-still g c clean number stands is_open on =
-    let old = state g.S.Store c.args.conn.now in
-    let settled = c.is_autocommit-outside.ensures.settled (rw (c.is_autocommit-outside.ensures.value, c.requires)) is_open in
-    c.found_schema.ensures.still clean c.requires (inl (tells_seen number old settled c.schema-schema.ensures.live is_open stands).meta) on
-
-pub returns-else-number-eq-SCHEMA-clause-still : goal.returns-else-number-eq-SCHEMA-clause-still
-returns-else-number-eq-SCHEMA-clause-still g c clean number stands is_open on =
-    let old = state g.S.Store c.args.conn.now in
-    let settled = c.is_autocommit-outside.ensures.settled (rw (c.is_autocommit-outside.ensures.value, c.requires)) is_open in
-    c.found_schema.ensures.still clean c.requires (inl (tells_seen number old settled c.schema-schema.ensures.live is_open stands).meta) on
-
-pub returns-in-None-clause-still : goal.returns-in-None-clause-still
-returns-in-None-clause-still g c clean number stands is_open on =
-    let old = state g.S.Store c.args.conn.now in
-    let settled = c.is_autocommit-outside.ensures.settled (rw (c.is_autocommit-outside.ensures.value, c.requires)) is_open in
-    c.found_schema.ensures.still clean c.requires (inl (tells_seen number old settled c.schema-schema.ensures.live is_open stands).meta) on
+    on_ok_weaker c.taken_if.result (λ ours. (c.in-Ok.ensures.same clean (ours_begins (state g.S.Store c.args.conn.now).now.schema (sym c.schema-schema.ensures.value ∙ c.has_this_layout-ours.ensures.0 ours))).0.is_open) c.taken_if.ensures.ok
 
 pub returns-in-Err-clause-other : goal.returns-in-Err-clause-other
 returns-in-Err-clause-other g c clean stands is_open =

@@ -1,19 +1,15 @@
-use Rattle.std.proofs.Common.{inl, inr, subst, sym}
+use Rattle.std.proofs.Common.{subst, sym}
 use Rattle.sqlite.specs.Held.{state}
 use Rattle.clear_schema.specs.Held.{HasTables}
-use Rattle.clear_schema.specs.Schema.{this_layout}
-use Rattle.clear_database.proofs.OpenLemmas.{store_tells}
-use Rattle.clear_disk.proofs.SeenLemmas.{nothing_seen}
 use Rattle.clear_host.proofs.RefusalLemmas.{blames_none, never_so, only_so, other_so, range_so}
-use Rattle.clear_host.proofs.StoreLemmas.{bare_still, below_seen, blameless_numbered, found_seen, just_seen, meta_seen, number_seen, other_layout_seen, tables_seen, told_seen, unnumbered_seen}
+use Rattle.clear_host.proofs.StoreLemmas.{bare_still, below_seen, blameless_numbered, found_seen, just_seen, none_told, number_seen, other_layout_seen, tables_seen, told_seen, unnumbered_seen}
 use Rattle.clear_host.proofs.migrations.bring.Goals as goal
 
 pub returns-in-Ok-clause-found : goal.returns-in-Ok-clause-found
 returns-in-Ok-clause-found g c image sees clean t holds =
     let old = state g.S.Store c.args.connection in
     let has = tables_seen image old (sees (c.in-Ok.ensures.clean clean)) t holds in
-    let known = inl (store_tells this_layout t old.now has).meta in
-    let still = c.in-Ok.ensures.still clean known (c.in-Ok.ensures.open clean known) in
+    let still = c.in-Ok.ensures.still clean (c.in-Ok.ensures.open clean) in
     let here = subst (HasTables t) (sym still.now_is) has in
     (here, subst (HasTables t) still.settled here)
 
@@ -22,7 +18,7 @@ returns-in-Ok-clause-ours g c image sees clean =
     let old = state g.S.Store c.args.connection in
     let seen = sees (c.in-Ok.ensures.clean clean) in
     record {
-      recovers = found_seen image old seen (λ none. never_so _ c.in-Ok.migration (c.in-Ok.ensures.empty clean (inl none)));
+      recovers = found_seen image old seen (λ none. never_so _ c.in-Ok.migration (c.in-Ok.ensures.empty clean (none_told old.now none)));
       only_this = λ number holds. c.in-Ok.ensures.only_this clean number (told_seen image old seen number holds).1;
       not_other = λ holds. never_so _ c.in-Ok.migration (c.in-Ok.ensures.other clean (other_layout_seen image old seen holds));
       only_stores = λ none. never_so _ c.in-Ok.migration (c.in-Ok.ensures.empty clean (unnumbered_seen image old seen none));
@@ -49,23 +45,22 @@ returns-in-Err-clause-rests g c image sees number trees holds tells clean live =
     let old = state g.S.Store c.args.connection in
     let seen = sees (c.in-Err.ensures.clean clean) in
     just_seen image old seen trees holds (state g.S.Store c.to_current.new.conn)
-    (c.in-Err.ensures.still clean (inl (told_seen image old seen number (trees, holds, tells)).1.meta) live)
+    (c.in-Err.ensures.still clean live)
 
 pub returns-in-Ok-clause-still : goal.returns-in-Ok-clause-still
 returns-in-Ok-clause-still g c image sees clean number trees holds tells =
     let old = state g.S.Store c.args.connection in
     let seen = sees (c.in-Ok.ensures.clean clean) in
-    let known = inl (told_seen image old seen number (trees, holds, tells)).1.meta in
-    just_seen image old seen trees holds (state g.S.Store c.to_current.new.conn) (c.in-Ok.ensures.still clean known (c.in-Ok.ensures.open clean known))
+    just_seen image old seen trees holds (state g.S.Store c.to_current.new.conn) (c.in-Ok.ensures.still clean (c.in-Ok.ensures.open clean))
 
 pub returns-in-Err-clause-alone : goal.returns-in-Err-clause-alone
-returns-in-Err-clause-alone g c image sees db holds is meta clean live =
+returns-in-Err-clause-alone g c image sees db holds is clean live =
     let old = state g.S.Store c.args.connection in
     let seen = sees (c.in-Err.ensures.clean clean) in
-    just_seen image old seen db.trees holds (state g.S.Store c.to_current.new.conn) (c.in-Err.ensures.still clean (meta_seen image old seen db holds is meta) live)
+    just_seen image old seen db.trees holds (state g.S.Store c.to_current.new.conn) (c.in-Err.ensures.still clean live)
 
 pub returns-in-Err-clause-bare : goal.returns-in-Err-clause-bare
 returns-in-Err-clause-bare g c image sees nothing clean live =
     let old = state g.S.Store c.args.connection in
     let seen = sees (c.in-Err.ensures.clean clean) in
-    bare_still image old seen nothing (state g.S.Store c.to_current.new.conn) (c.in-Err.ensures.still clean (inr (nothing_seen image old seen nothing)) live)
+    bare_still image old seen nothing (state g.S.Store c.to_current.new.conn) (c.in-Err.ensures.still clean live)

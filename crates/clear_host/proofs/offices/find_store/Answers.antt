@@ -1,15 +1,11 @@
-use Rattle.std.proofs.Common.{inl, inr}
 use Rattle.std.proofs.lemmas.Result.{IfOk-weaker}
 use Rattle.sqlite.specs.Held.{state}
 use Rattle.sqlite.specs.State.{HasCleanDisk}
 use Rattle.clear_disk.specs.Seen.{SeesIn}
-use Rattle.clear_database.proofs.OpenLemmas.{store_tells}
-use Rattle.clear_schema.specs.Schema.{this_layout}
 use Rattle.clear_disk.proofs.SeenLemmas.{if_ok_both}
 use Rattle.clear_host.specs.Contents.{BlamesNone}
 use Rattle.clear_host.proofs.RefusalLemmas.{blames_none, refused_leaves, tells_only, untold_tells}
-use Rattle.clear_disk.proofs.SeenLemmas.{nothing_seen}
-use Rattle.clear_host.proofs.StoreLemmas.{bare_still, below_seen, blameless_numbered, just_seen, meta_or_none, meta_seen, number_seen, other_is_seen, other_layout_seen, ours_seen, still_seen, store_seen, tables_seen, told_seen, unnumbered_seen}
+use Rattle.clear_host.proofs.StoreLemmas.{bare_still, below_seen, blameless_numbered, just_seen, number_seen, other_is_seen, ours_seen, still_seen, store_seen, told_seen, unnumbered_seen}
 use Rattle.clear_host.proofs.offices.find_store.Goals as goal
 
 pub returns-in-Ok-clause-found : goal.returns-in-Ok-clause-found
@@ -59,20 +55,19 @@ returns-in-Err-clause-leaves g c image sees =
     record {
       tables = λ t holds clean live.
           let seen = sees (c.in-Err.ensures.clean_left clean) in
-          let meta = (store_tells this_layout t old.now (tables_seen image old seen t holds)).meta in
-          still_seen image old seen t holds new (c.in-Err.ensures.rests clean (inl meta) live);
+          still_seen image old seen t holds new (c.in-Err.ensures.still clean live);
       others = λ number trees holds tells other clean live.
           let seen = sees (c.in-Err.ensures.clean_left clean) in
-          just_seen image old seen trees holds new (c.in-Err.ensures.rests clean (inl (told_seen image old seen number (trees, holds, tells)).1.meta) live);
+          just_seen image old seen trees holds new (c.in-Err.ensures.still clean live);
       otherwise = λ trees holds stands clean live.
           let seen = sees (c.in-Err.ensures.clean_left clean) in
-          just_seen image old seen trees holds new (c.in-Err.ensures.rests clean (inl (other_layout_seen image old seen (trees, holds, stands)).tells.meta) live);
+          just_seen image old seen trees holds new (c.in-Err.ensures.still clean live);
       unnumbered = λ db holds is which clean live.
           let seen = sees (c.in-Err.ensures.clean_left clean) in
-          just_seen image old seen db.trees holds new (c.in-Err.ensures.rests clean (meta_seen image old seen db holds is (meta_or_none db which)) live);
+          just_seen image old seen db.trees holds new (c.in-Err.ensures.still clean live);
       nothing = λ none clean live.
           let seen = sees (c.in-Err.ensures.clean_left clean) in
-          bare_still image old seen none new (c.in-Err.ensures.rests clean (inr (nothing_seen image old seen none)) live);
+          bare_still image old seen none new (c.in-Err.ensures.still clean live);
     }
 
 pub returns-in-Ok-clause-leaves : goal.returns-in-Ok-clause-leaves

@@ -1,9 +1,7 @@
-use Rattle.std.proofs.Common.{ap, inl, inr, sym, ◌∙◌}
-use Rattle.sqlite.specs.Effect.{Database}
 use Rattle.sqlite.specs.Held.{state}
 use Rattle.clear_disk.proofs.SeenLemmas.{nothing_seen}
 use Rattle.clear_host.proofs.RefusalLemmas.{blames_none, tells_none, tells_only}
-use Rattle.clear_host.proofs.StoreLemmas.{below_seen, just_seen, meta_seen, none_seen, number_seen, objects_seen, told_seen, unnumbered_seen}
+use Rattle.clear_host.proofs.StoreLemmas.{bare_still, below_seen, just_seen, none_seen, number_seen, objects_seen, told_seen, unnumbered_seen}
 use Rattle.clear_host.proofs.offices.new_office.Goals as goal
 
 pub returns-in-Ok-clause-made : goal.returns-in-Ok-clause-made
@@ -34,10 +32,7 @@ pub returns-in-Err-clause-undone : goal.returns-in-Err-clause-undone
 returns-in-Err-clause-undone g c image sees nothing clean live =
     let old = state g.S.Store c.args.connection in
     let seen = sees (c.in-Err.ensures.clean_left clean) in
-    let none = nothing_seen image old seen nothing in
-    let bare = ap (λ (d : Database). d.schema) (sym seen.opened.0.clean) ∙ none in
-    let stays = c.in-Err.ensures.undone clean none live in
-    (ap (λ (d : Database). d.schema) stays.0 ∙ bare, ap (λ (d : Database). d.schema) stays.1 ∙ bare)
+    bare_still image old seen nothing (state g.S.Store c.in-Err.refusal.connection) (c.in-Err.ensures.rests clean live)
 
 pub returns-in-Err-clause-no_number : goal.returns-in-Err-clause-no_number
 returns-in-Err-clause-no_number g c image sees none clean =
@@ -59,15 +54,10 @@ returns-in-Err-clause-rests g c image sees number trees holds tells clean live =
     let old = state g.S.Store c.args.connection in
     let seen = sees (c.in-Err.ensures.clean_left clean) in
     just_seen image old seen trees holds (state g.S.Store c.in-Err.refusal.connection)
-    (c.in-Err.ensures.rests clean (told_seen image old seen number (trees, holds, tells)).1.meta live)
+    (c.in-Err.ensures.rests clean live)
 
 pub returns-in-Err-clause-alone : goal.returns-in-Err-clause-alone
-returns-in-Err-clause-alone g c image sees db holds is meta clean live =
+returns-in-Err-clause-alone g c image sees db holds is clean live =
     let old = state g.S.Store c.args.connection in
     let seen = sees (c.in-Err.ensures.clean_left clean) in
-    elim (meta_seen image old seen db holds is meta) [
-      | inl first ↦ just_seen image old seen db.trees holds (state g.S.Store c.in-Err.refusal.connection) (c.in-Err.ensures.rests clean first live)
-      | inr none ↦
-          let stays = c.in-Err.ensures.undone clean none live in
-          (ap (λ (d : Database). d.trees) stays.0 ∙ seen.holds db.trees holds, ap (λ (d : Database). d.trees) stays.1 ∙ seen.holds db.trees holds)
-    ]
+    just_seen image old seen db.trees holds (state g.S.Store c.in-Err.refusal.connection) (c.in-Err.ensures.rests clean live)

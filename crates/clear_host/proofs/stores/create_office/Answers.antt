@@ -83,7 +83,7 @@ returns-clause-alone g c = c.new_office.ensures.alone (image_at g.S.Start) c.in_
 pub returns-in_err-connection-clause-alone : goal.returns-in_err-connection-clause-alone
 returns-in_err-connection-clause-alone g c =
     let p = err_from_is_err_and c.from_residual.result c.from_residual.ensures.1 in
-    rw (p.1, p.2) λ db holds is meta. never_open over_files (HasJust db.trees) c.in_err-connection.field-0.0 c.in_err-connection.ensures.none
+    rw (p.1, p.2) λ db holds is. never_open over_files (HasJust db.trees) c.in_err-connection.field-0.0 c.in_err-connection.ensures.none
 
 pub returns-clause-outside : goal.returns-clause-outside
 returns-clause-outside g c = c.new_office.ensures.outside

@@ -1,4 +1,4 @@
-use Rattle.std.proofs.Common.{◌∙◌, sym}
+use Rattle.std.proofs.Common.{◌∙◌, refl, subst, sym, IsSome}
 use Rattle.clear_migrate.proofs.AnswerLemmas.{answers, row_or_disk}
 use Rattle.clear_migrate.proofs.schemas.version.Goals as goal
 
@@ -12,3 +12,8 @@ returns-in-Ok-None-clause-told g c clean number has =
 
 pub returns-in-Err-clause-below_zero : goal.returns-in-Err-clause-below_zero
 returns-in-Err-clause-below_zero g c clean below = row_or_disk c.in-Err.fault (c.in-Err.ensures.below_zero clean below).1
+
+pub returns-in-Ok-Some-clause-open : goal.returns-in-Ok-Some-clause-open
+returns-in-Ok-Some-clause-open g c clean =
+    let first = c.in-Ok-Some.ensures.only_meta (subst IsSome (sym c.in-Ok-Some.field-0-is) refl) in
+    (c.in-Ok-Some.ensures.same clean first).0.is_open

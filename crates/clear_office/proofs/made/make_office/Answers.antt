@@ -40,8 +40,7 @@ returns-in_err-store g c =
       empty = refused.empty;
       below_zero = refused.below_zero;
       cause = refused.cause;
-      undone = refused.undone;
-      crash_left = refused.crash_left;
       rests = refused.rests;
       rests_after = refused.rests_after;
+      crash_left = refused.crash_left;
     })

@@ -11,3 +11,6 @@ returns-in-Err-clause-other g c clean stands is_open = (c.in-Err.ensures.other c
 
 pub returns-in-Ok-clause-not_other : goal.returns-in-Ok-clause-not_other
 returns-in-Ok-clause-not_other g c clean is_open stands = (c.in-Ok.ensures.other clean stands is_open).0
+
+pub returns-in-Err-clause-empty : goal.returns-in-Err-clause-empty
+returns-in-Err-clause-empty g c clean none = (c.in-Err.ensures.empty clean none).1
