@@ -304,7 +304,7 @@ class OfficesPort(DeskUnderTest):
         self.assertEqual((status, members["entry"]["outcome"], members["entry"]["reply"]), (502, "lost", told))
         self.assertEqual(members["state"]["pending"]["number"], 1)
         # What was taken is two connections and not a byte of them.
-        self.assertEqual(stranger.requests, [b"", b""])
+        self.wait_for(lambda: stranger.requests == [b"", b""])
         stranger.end()
         self.open_office(port=stranger.port)
         self.does(DONE, self.post("/api/pending/send-again", "send-again", {"number": 1}), "repeated")
