@@ -12,7 +12,7 @@ use Rattle.clear_values.proofs.KeyedChangesLemmas.{AllByRecursion-in_key_order}
 use Rattle.clear_values.proofs.KeyedRowsLemmas.{sum_by-with_rows}
 use Rattle.clear_values.specs.Tables.{serial_key}
 use Rattle.clear_book.specs.Lines.{suspense_count}
-use Rattle.clear_reading.specs.Look.{suspended_cents}
+use Rattle.clear_reading.specs.LookParts.{suspended_cents}
 use Rattle.clear_reading.specs.Reader.{AreAddable}
 
 abbrev pub cents : BankRow → ℕ

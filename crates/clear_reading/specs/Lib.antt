@@ -1,6 +1,7 @@
 pub mod Documents
 pub mod Faults
 pub mod Look
+pub mod LookParts
 pub mod Payout
 pub mod Reader
 pub mod Source

@@ -5,7 +5,8 @@ ghost use Rattle.clear_values.specs.Keyed.{find_row};
 ghost use Rattle.clear_values.specs.Tables.{list_key, run_key};
 ghost use Rattle.clear_ledger.specs.Kept.{greatest_number};
 ghost use Rattle.clear_schema.specs.Values.{counts_of};
-ghost use Rattle.clear_reading.specs.Look.{AreFewSuspended, latest_of, look_at, look_of};
+ghost use Rattle.clear_reading.specs.Look.{AreFewSuspended, look_of};
+ghost use Rattle.clear_reading.specs.LookParts.{latest_of, look_at};
 ghost use Rattle.clear_reading.specs.Reader.{TellsTables};
 
 use crate::row_counts::{RowCounts, count_tables};

@@ -1,7 +1,8 @@
 //! How many firms, reports, bank lines and claims there are, of all rows of their tables.
 ghost use Rattle.std.specs.Prelude.{◌≡◌, false, length};
-ghost use Rattle.clear_reading.specs.Look.{AreFewSuspended, claims_counted, lines_counted};
-ghost use Rattle.clear_reading.specs.Look.{rows_counted, suspended_cents};
+ghost use Rattle.clear_reading.specs.Look.{AreFewSuspended};
+ghost use Rattle.clear_reading.specs.LookParts.{claims_counted, lines_counted, rows_counted};
+ghost use Rattle.clear_reading.specs.LookParts.{suspended_cents};
 ghost use Rattle.clear_reading.specs.Reader.{TellsTables};
 
 use crate::counting::{AllRows, Tally, count_rows};
@@ -104,7 +105,7 @@ fn count_claims<S: Alter>(conn: &mut Connection<S>) -> Result<ClaimCount, Fault>
 struct AllLines;
 
 impl Tally for AllLines {
-    ghost use Rattle.clear_reading.specs.Look.{lines_counted, suspended_cents};
+    ghost use Rattle.clear_reading.specs.LookParts.{lines_counted, suspended_cents};
 
     type Table = Bank;
 
@@ -146,7 +147,7 @@ fn suspended_cents(row: &BankRow) -> u64
 struct AllClaims;
 
 impl Tally for AllClaims {
-    ghost use Rattle.clear_reading.specs.Look.{claims_counted};
+    ghost use Rattle.clear_reading.specs.LookParts.{claims_counted};
 
     type Table = Claims;
 

@@ -2,7 +2,7 @@ use Rattle.std.proofs.Common.{◌∙◌, [], ◌∷◌, ap}
 use Rattle.std.proofs.lemmas.Result.{err_from_is_err_and}
 use Rattle.clear_values.specs.Keyed.{find_row}
 use Rattle.clear_values.specs.Tables.{list_key, run_key}
-use Rattle.clear_reading.specs.Look.{latest_of}
+use Rattle.clear_reading.specs.LookParts.{latest_of}
 use Rattle.clear_reading.proofs.SequenceLemmas.{both, refused_behind, told_as}
 use Rattle.clear_reading.proofs.look.find_latest.Goals as goal
 

@@ -1,6 +1,7 @@
 use Rattle.std.proofs.Common.{◌∙◌, ap}
 use Rattle.std.proofs.lemmas.Result.{err_from_is_err_and}
-use Rattle.clear_reading.specs.Look.{AreFewSuspended, look_at, look_of}
+use Rattle.clear_reading.specs.Look.{AreFewSuspended, look_of}
+use Rattle.clear_reading.specs.LookParts.{look_at}
 use Rattle.clear_reading.proofs.SequenceLemmas.{both, refused_behind, told_as}
 use Rattle.clear_reading.proofs.look.look.Goals as goal
 

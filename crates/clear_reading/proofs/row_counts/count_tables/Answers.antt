@@ -1,5 +1,6 @@
 use Rattle.std.proofs.lemmas.Result.{err_from_is_err_and}
-use Rattle.clear_reading.specs.Look.{AreFewSuspended, rows_counted}
+use Rattle.clear_reading.specs.Look.{AreFewSuspended}
+use Rattle.clear_reading.specs.LookParts.{rows_counted}
 use Rattle.clear_reading.proofs.SequenceLemmas.{both, refused_behind, told_as}
 use Rattle.clear_reading.proofs.row_counts.count_tables.Goals as goal
 
