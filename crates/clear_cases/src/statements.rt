@@ -5,7 +5,8 @@ use clear_book::texts::{CreditReference, Name};
 use clear_money::days::Day;
 use clear_money::months::Month;
 use clear_money::numbers::EmployerNo;
-use clear_texts::rows::{ChargeRow, RowFault, RowSource};
+use clear_records::faults::RowFault;
+use clear_texts::rows::{ChargeRow, RowSource};
 use clear_texts::statement::statement;
 use std::alloc::Global;
 

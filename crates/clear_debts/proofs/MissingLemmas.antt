@@ -18,8 +18,8 @@ use Rattle.clear_book.specs.Book.{Book, is_member_month, latest_lines, member_of
 use Rattle.clear_book.specs.Tables.{member_in}
 use Rattle.clear_book.specs.declared.rows.EmployerRow.{EmployerRow}
 use Rattle.clear_laws.proofs.DistinctLemmas.{itself, same_worker}
-use Rattle.clear_texts.specs.Records.{ChargesRise, has_charge}
-use Rattle.clear_texts.specs.Told.{is_missing_in}
+use Rattle.clear_records.specs.Records.{ChargesRise, has_charge}
+use Rattle.clear_records.specs.Told.{is_missing_in}
 use Rattle.clear_debts.proofs.FoundLemmas.{each_found}
 
 -- there is a row of a month where there is a contribution

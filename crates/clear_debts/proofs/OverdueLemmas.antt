@@ -25,8 +25,8 @@ use Rattle.clear_book.specs.declared.rows.CreditRow.{CreditRow}
 use Rattle.clear_book.specs.declared.rows.EmployerRow.{EmployerRow}
 use Rattle.clear_laws.proofs.CreditsLemmas.{credits-standing}
 use Rattle.clear_laws.proofs.LimitsLemmas.{months_are}
-use Rattle.clear_texts.specs.Records.{ChargesRise}
-use Rattle.clear_texts.specs.Told.{interest_owed, is_missing_in}
+use Rattle.clear_records.specs.Records.{ChargesRise}
+use Rattle.clear_records.specs.Told.{interest_owed, is_missing_in}
 use Rattle.clear_debts.specs.Overdue.{AreKept, IsFirm, interest_amounts, overdue_told}
 use Rattle.clear_debts.specs.declared.overdue.Overdue.{Overdue}
 use Rattle.clear_debts.proofs.MissingLemmas.{missing_of_book, rows_rise}

@@ -22,9 +22,9 @@ use clear_money::days::Day;
 use clear_money::months::Month;
 use clear_money::numbers::Amount;
 use clear_money::rates::RateTable;
+use clear_records::arrears::interest_arrears;
+use clear_records::missing::missing_months;
 use clear_schema::fault::Fault;
-use clear_texts::arrears::interest_arrears;
-use clear_texts::missing::missing_months;
 use sqlite::{Alter, Transaction};
 use std::alloc::Global;
 

@@ -26,8 +26,8 @@ use Rattle.clear_laws.proofs.TableAccountLemmas.{account_of_tables}
 use Rattle.clear_reading.specs.Paid.{ArePiecesFor, pieces_for}
 use Rattle.clear_texts.proofs.PaidBookLemmas.{told_pieces, told_text}
 use Rattle.clear_texts.specs.Paid.{statement_paid}
-use Rattle.clear_texts.specs.Records.{IsFor, IsHead}
-use Rattle.clear_texts.specs.declared.records.StatementHead.{StatementHead}
+use Rattle.clear_records.specs.Records.{IsFor, IsHead}
+use Rattle.clear_records.specs.declared.statement.StatementHead.{StatementHead}
 use Rattle.clear_database.specs.declared.body.Stop.{Stop}
 use Rattle.clear_queries.specs.Findings.{AreRightFor, FindsStatement, HasRightRows, IsOverRightPieces, IsOverRightRows, answer_of}
 use Rattle.clear_queries.specs.declared.inquiry.Finding.TheVariants as finding

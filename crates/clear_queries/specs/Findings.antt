@@ -18,8 +18,8 @@ use Rattle.clear_reading.specs.Look.{AreFewSuspended}
 use Rattle.clear_reading.specs.Paid.{ArePiecesFor, pieces_for}
 use Rattle.clear_reading.specs.Reader.{AreAddable}
 use Rattle.clear_texts.specs.Paid.{statement_paid}
-use Rattle.clear_texts.specs.Records.{IsFor}
-use Rattle.clear_texts.specs.declared.records.StatementHead.{StatementHead}
+use Rattle.clear_records.specs.Records.{IsFor}
+use Rattle.clear_records.specs.declared.statement.StatementHead.{StatementHead}
 use Rattle.clear_database.specs.declared.body.Stop.{Stop}
 use Rattle.clear_database.specs.declared.body.Stop.TheVariants as stop
 use Rattle.clear_queries.specs.declared.inquiry.Finding.{Finding}

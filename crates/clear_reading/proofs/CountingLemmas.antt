@@ -3,8 +3,8 @@ use Rattle.std.proofs.Common.{◌≡◌, ◌∙◌, ◌^◌, ◌≤◌, ℕ, ◌
 use Rattle.std.specs.Iterator.{Yields}
 use Rattle.clear_texts.proofs.RowLemmas.{Yields-append}
 use Rattle.clear_texts.specs.Rows.{IsCutOffAdding}
-use Rattle.clear_texts.specs.declared.rows.RowFault.{RowFault}
-use Rattle.clear_texts.specs.declared.rows.RowFault.TheVariants.{Store}
+use Rattle.clear_records.specs.declared.faults.RowFault.{RowFault}
+use Rattle.clear_records.specs.declared.faults.RowFault.TheVariants.{Store}
 use Rattle.clear_values.specs.declared.causes.StoreCause.TheVariants.{Row as OutOfRange}
 
 module _ {S X Count : Type 0} (counted : List X → Count) (gives : S → Option X → S → Type 0) where

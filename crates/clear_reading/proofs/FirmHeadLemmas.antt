@@ -25,8 +25,8 @@ use Rattle.clear_book.specs.Machine.{IsLawful}
 use Rattle.clear_book.specs.Tables.{Tables, Stands, employer_key, member_in, report_key}
 use Rattle.clear_laws.proofs.CreditsLemmas.{credits-standing}
 use Rattle.clear_laws.proofs.KeyedLemmas.{found_key}
-use Rattle.clear_texts.specs.Records.{AreStatementRecords, ChargesRise, MonthsRise, version_in}
-use Rattle.clear_texts.specs.declared.records.StatementRecords.{StatementRecords}
+use Rattle.clear_records.specs.Records.{AreStatementRecords, ChargesRise, MonthsRise, version_in}
+use Rattle.clear_records.specs.declared.statement.StatementRecords.{StatementRecords}
 use Rattle.clear_debts.specs.Overdue.{AreKept}
 use Rattle.clear_reading.specs.FirmHead.{AreRead}
 use Rattle.clear_debts.proofs.MissingLemmas.{missing_of_book, rows_rise}

@@ -13,8 +13,8 @@ use Rattle.clear_columns.specs.Reading.{Advances, HasToGive}
 use Rattle.clear_schema.specs.declared.fault.Fault.{Fault}
 use Rattle.clear_schema.specs.Faults.{IsOfDisk}
 use Rattle.clear_texts.specs.Rows.{IsCutOff, IsCutOffAdding, IsCutOffUnless}
-use Rattle.clear_texts.specs.declared.rows.RowFault.{RowFault}
-use Rattle.clear_texts.specs.declared.rows.RowFault.TheVariants.{Memory}
+use Rattle.clear_records.specs.declared.faults.RowFault.{RowFault}
+use Rattle.clear_records.specs.declared.faults.RowFault.TheVariants.{Memory}
 use Rattle.clear_reading.specs.Faults.{fault_told}
 use Rattle.clear_reading.specs.Reader.{AreAddable, AreRightIn, Tells, TellsOnlyOver}
 use Rattle.clear_reading.specs.Source.{Gives, KeepsLoan, Refuses}

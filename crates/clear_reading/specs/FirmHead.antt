@@ -9,7 +9,7 @@ use Rattle.clear_book.specs.Book.{Book, member_of}
 use Rattle.clear_book.specs.Lines.{is_credit_of}
 use Rattle.clear_book.specs.Tables.{Tables}
 use Rattle.clear_book.specs.declared.rows.EmployerRow.{EmployerRow}
-use Rattle.clear_texts.specs.declared.records.StatementRecords.{StatementRecords}
+use Rattle.clear_records.specs.declared.statement.StatementRecords.{StatementRecords}
 
 -- this is so of what is found of the employer; and nothing is found where it isn't registered
 abbrev pub IsFound : {X : Type 0} → Book → ℕ → (X → Type 0) → Option X → Type 0

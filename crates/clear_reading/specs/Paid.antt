@@ -3,7 +3,7 @@ use Rattle.std.specs.Prelude.{◌==◌, List, filter}
 use Rattle.clear_values.specs.declared.rows.PieceRow.{PieceRow}
 use Rattle.clear_values.specs.RowRanges.{IsPieceRow}
 use Rattle.clear_values.specs.Tables.{Tables}
-use Rattle.clear_texts.specs.declared.records.StatementHead.{StatementHead}
+use Rattle.clear_records.specs.declared.statement.StatementHead.{StatementHead}
 use Rattle.clear_texts.specs.Paid.{ArePiecesOf}
 use Rattle.clear_reading.specs.Reader.{AreRightIn}
 

@@ -5,7 +5,7 @@ use Rattle.sqlite.specs.Order.{Row}
 use Rattle.sqlite.specs.Store.{Ghosts}
 use Rattle.clear_columns.specs.Reading.{Advances}
 use Rattle.clear_schema.specs.declared.fault.Fault.{Fault}
-use Rattle.clear_texts.specs.declared.rows.RowFault.{RowFault}
+use Rattle.clear_records.specs.declared.faults.RowFault.{RowFault}
 use Rattle.clear_reading.specs.Faults.{fault_told}
 use Rattle.clear_reading.specs.declared.stored.StoredRows.{StoredRows}
 

@@ -6,8 +6,9 @@ ghost use Rattle.clear_reading.specs.Reader.{AreAddable, Tells};
 
 use crate::stored::{StoredRows, fault_told};
 use clear_columns::rows::StoredTable;
+use clear_records::faults::RowFault;
 use clear_schema::fault::Fault;
-use clear_texts::rows::{RowFault, RowSource};
+use clear_texts::rows::RowSource;
 use clear_values::causes::StoreCause;
 use sqlite::{Alter, Rows};
 use std::marker::PhantomData;

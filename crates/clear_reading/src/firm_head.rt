@@ -10,7 +10,7 @@ ghost use Rattle.clear_book.specs.Tables.{Tables};
 ghost use Rattle.clear_schema.specs.Frame.{Leaves};
 ghost use Rattle.clear_schema.specs.Faults.{IsOfDisk};
 ghost use Rattle.clear_schema.specs.Held.{HasTables};
-ghost use Rattle.clear_texts.specs.Records.{AreStatementRecords, IsFor, IsHead};
+ghost use Rattle.clear_records.specs.Records.{AreStatementRecords, IsFor, IsHead};
 ghost use Rattle.clear_reading.specs.FirmHead.{AreRead, IsFound};
 
 use crate::stored::fault_told;
@@ -23,9 +23,8 @@ use clear_firms::reports::reports_of;
 use clear_ledger::credits::credits_of;
 use clear_money::days::Day;
 use clear_money::numbers::EmployerNo;
+use clear_records::statement::{StatementHead, StatementRecords, statement_head};
 use clear_schema::fault::Fault;
-use clear_texts::documents::statement_head;
-use clear_texts::records::{StatementHead, StatementRecords};
 use sqlite::{Alter, Transaction};
 use std::alloc::Global;
 

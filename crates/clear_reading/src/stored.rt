@@ -5,8 +5,9 @@ ghost use Rattle.clear_reading.specs.Faults.{fault_told};
 ghost use Rattle.clear_reading.specs.Reader.{Tells};
 
 use clear_columns::rows::{StoredTable, next_row};
+use clear_records::faults::RowFault;
 use clear_schema::fault::Fault;
-use clear_texts::rows::{RowFault, RowSource};
+use clear_texts::rows::RowSource;
 use sqlite::{Alter, Rows};
 use std::marker::PhantomData;
 

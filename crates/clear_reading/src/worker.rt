@@ -8,14 +8,14 @@ ghost use Rattle.clear_book.specs.Tables.{Stands, Tables};
 ghost use Rattle.clear_schema.specs.Frame.{Leaves};
 ghost use Rattle.clear_schema.specs.Faults.{IsOfDisk};
 ghost use Rattle.clear_schema.specs.Held.{HasTables};
-ghost use Rattle.clear_texts.specs.Records.{AreWorkerRecords};
+ghost use Rattle.clear_records.specs.Records.{AreWorkerRecords};
 
 use clear_firms::rates::rate_table;
 use clear_firms::wages::worker_wages;
 use clear_money::numbers::WorkerNo;
 use clear_payouts::claims::worker_claims;
+use clear_records::worker::WorkerRecords;
 use clear_schema::fault::Fault;
-use clear_texts::records::WorkerRecords;
 use sqlite::{Alter, Transaction};
 
 /// The records of a worker's document: the rates, its lines in the latest reports of all firms, by

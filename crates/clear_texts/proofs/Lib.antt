@@ -1,13 +1,8 @@
 pub mod AmountLemmas
 pub mod LawLemmas
 pub mod LineLemmas
-pub mod MissingLemmas
 pub mod PaidBookLemmas
 pub mod PaidLemmas
 pub mod PartLemmas
-pub mod RangeLemmas
-pub mod RecordLemmas
 pub mod RowLemmas
 pub mod SuspenseLemmas
-pub mod VersionLemmas
-pub mod WorkerLemmas

@@ -32,10 +32,10 @@ use Rattle.clear_laws.proofs.TableAccountLemmas.{account_of_tables}
 use Rattle.clear_laws.proofs.TablePiecesLemmas.{table_pieces-book}
 use Rattle.clear_texts.specs.Laws.{PaidChargesRise, rows_of, rows_with, row_of}
 use Rattle.clear_texts.specs.Paid.{ArePiecesOf, behind_month, charge_paid, charges_paid, first_of_month, paid_rows, pieces_over, statement_paid}
-use Rattle.clear_texts.specs.Records.{IsHead}
+use Rattle.clear_records.specs.Records.{IsHead}
 use Rattle.clear_texts.specs.Rows.{most_rows}
 use Rattle.clear_texts.specs.Text.{text_of_rows}
-use Rattle.clear_texts.specs.declared.records.StatementHead.{StatementHead}
+use Rattle.clear_records.specs.declared.statement.StatementHead.{StatementHead}
 use Rattle.clear_texts.proofs.LawLemmas.{rising_cons, statement_law}
 use Rattle.clear_texts.proofs.PaidLemmas.{one_taken}
 

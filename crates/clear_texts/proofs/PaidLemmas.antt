@@ -15,7 +15,7 @@ use Rattle.clear_texts.specs.PaidSteps.{GivesPaid, GivesRow, KeepsSource, Passes
 use Rattle.clear_texts.specs.Rows.{GivesWrong, IsCutOffUnless, IsRefused, Reads, most_rows}
 use Rattle.clear_texts.specs.declared.paid.PaidRows.{PaidRows}
 use Rattle.clear_texts.specs.declared.rows.ChargeRow.{ChargeRow}
-use Rattle.clear_texts.specs.declared.rows.RowFault.{RowFault}
+use Rattle.clear_records.specs.declared.faults.RowFault.{RowFault}
 use Rattle.clear_texts.proofs.RowLemmas.{Yields-append}
 
 -- the next piece, and more behind it; nothing comes behind the end

@@ -9,8 +9,8 @@ use Rattle.clear_texts.specs.Charges.{piece_line, MonthRows, with_row, by_month,
 use Rattle.clear_texts.specs.RowSteps.{row_lines, IsNotTheEnd}
 use Rattle.clear_texts.specs.Rows.{most_rows, IsRefused}
 use Rattle.clear_book.specs.declared.rules.StoreCause.TheVariants.{Row as row_cause}
-use Rattle.clear_texts.specs.declared.rows.RowFault.{RowFault}
-use Rattle.clear_texts.specs.declared.rows.RowFault.TheVariants.{Memory, Store}
+use Rattle.clear_records.specs.declared.faults.RowFault.{RowFault}
+use Rattle.clear_records.specs.declared.faults.RowFault.TheVariants.{Memory, Store}
 use Rattle.clear_texts.specs.declared.rows.ChargeRow.{ChargeRow}
 
 -- the month of the last row, or this one without rows

@@ -4,7 +4,7 @@ use Rattle.std.specs.Prelude.{Option, None, sum_by}
 use Rattle.std.specs.Iterator.{Yields, YieldsThen}
 use Rattle.std.proofs.lemmas.List.Sums.{sum_by-cons, sum_by_push}
 use Rattle.clear_book.specs.declared.rows.BankRow.{BankRow}
-use Rattle.clear_texts.specs.declared.rows.RowFault.{RowFault}
+use Rattle.clear_records.specs.declared.faults.RowFault.{RowFault}
 use Rattle.clear_texts.specs.declared.suspense.Summed.{Summed}
 use Rattle.clear_texts.specs.Rows.{IsCutOff, IsCutOffAdding}
 use Rattle.clear_texts.specs.Adding.{GivesAdding, RefusesAdding}

@@ -2,8 +2,8 @@
 use Rattle.std.specs.Prelude.{◌≡◌, ◌⊎◌, ◌+◌, ◌^◌, ◌≤◌, ℕ, Option, Some}
 use Rattle.std.specs.Option.{option_map_or}
 use Rattle.clear_book.specs.declared.rules.StoreCause.TheVariants.{Row as row_cause}
-use Rattle.clear_texts.specs.declared.rows.RowFault.{RowFault}
-use Rattle.clear_texts.specs.declared.rows.RowFault.TheVariants.{Store}
+use Rattle.clear_records.specs.declared.faults.RowFault.{RowFault}
+use Rattle.clear_records.specs.declared.faults.RowFault.TheVariants.{Store}
 
 module _ {S Row : Type 0} (gives : S → Option Row → S → Type 0) (amount : Row → ℕ) where
   -- a call gives what the source gives, and adds its amount to the sum before

@@ -1,13 +1,9 @@
 pub mod Adding
 pub mod Charges
-pub mod Earned
-pub mod Found
 pub mod Laws
 pub mod Look
 pub mod Paid
 pub mod PaidSteps
-pub mod Records
 pub mod RowSteps
 pub mod Rows
 pub mod Text
-pub mod Told

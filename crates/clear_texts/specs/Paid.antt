@@ -5,7 +5,7 @@ use Rattle.clear_book.specs.declared.documents.ChargeState.{ChargeState}
 use Rattle.clear_book.specs.declared.rows.PieceRow.{PieceRow}
 use Rattle.clear_book.specs.Documents.Statement.{PaidCharge}
 use Rattle.clear_book.specs.Own.Statement.{payment_in}
-use Rattle.clear_texts.specs.declared.records.StatementHead.{StatementHead}
+use Rattle.clear_records.specs.declared.statement.StatementHead.{StatementHead}
 use Rattle.clear_texts.specs.declared.rows.ChargeRow.{ChargeRow}
 use Rattle.clear_texts.specs.Laws.{rows_of}
 use Rattle.clear_texts.specs.Rows.{most_rows}

@@ -9,8 +9,8 @@ use Rattle.clear_book.specs.declared.rules.StoreCause.TheVariants.{Row as row_ca
 use Rattle.clear_book.specs.Own.Statement.{payment_in}
 use Rattle.clear_texts.specs.declared.paid.PaidRows.{PaidRows}
 use Rattle.clear_texts.specs.declared.rows.ChargeRow.{ChargeRow}
-use Rattle.clear_texts.specs.declared.rows.RowFault.{RowFault}
-use Rattle.clear_texts.specs.declared.rows.RowFault.TheVariants.{Store}
+use Rattle.clear_records.specs.declared.faults.RowFault.{RowFault}
+use Rattle.clear_records.specs.declared.faults.RowFault.TheVariants.{Store}
 
 -- there is a next piece, and it is of the month
 abbrev pub is_under : ℕ → Option PieceRow → Bool

@@ -5,8 +5,8 @@ use Rattle.clear_book.specs.declared.rules.StoreCause.TheVariants.{Row}
 use Rattle.clear_book.specs.Documents.Lines.{charge_line}
 use Rattle.clear_texts.specs.Charges.{piece_line}
 use Rattle.clear_texts.specs.declared.rows.ChargeRow.{ChargeRow}
-use Rattle.clear_texts.specs.declared.rows.RowFault.{RowFault}
-use Rattle.clear_texts.specs.declared.rows.RowFault.TheVariants.{Store}
+use Rattle.clear_records.specs.declared.faults.RowFault.{RowFault}
+use Rattle.clear_records.specs.declared.faults.RowFault.TheVariants.{Store}
 
 -- the month is that of the row before
 abbrev pub is_month_of : Option ℕ → ℕ → Bool

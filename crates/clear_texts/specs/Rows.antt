@@ -3,8 +3,8 @@ use Rattle.std.specs.Prelude.{◌≡◌, ◌⊎◌, ◌+◌, ◌++◌, ◌^◌, 
 use Rattle.std.specs.Prelude.{Option, None}
 use Rattle.std.specs.Iterator.{Yields, YieldsThen}
 use Rattle.clear_book.specs.declared.rules.StoreCause.TheVariants.{Row as row_cause}
-use Rattle.clear_texts.specs.declared.rows.RowFault.{RowFault}
-use Rattle.clear_texts.specs.declared.rows.RowFault.TheVariants.{Memory, Store}
+use Rattle.clear_records.specs.declared.faults.RowFault.{RowFault}
+use Rattle.clear_records.specs.declared.faults.RowFault.TheVariants.{Memory, Store}
 
 -- the rows of an account: 100,000 credits, and twice 2,400 months
 abbrev pub most_rows : ℕ

@@ -9,11 +9,11 @@ ghost use Rattle.clear_book.specs.Book.{Book};
 ghost use Rattle.clear_book.specs.Judge.{statement_on};
 ghost use Rattle.clear_book.specs.Machine.{IsLawful};
 ghost use Rattle.clear_book.specs.Tables.{Tables};
-ghost use Rattle.clear_texts.specs.declared.records.StatementHead.{StatementHead};
+ghost use Rattle.clear_records.specs.declared.statement.StatementHead.{StatementHead};
 ghost use Rattle.clear_texts.specs.Charges.{charge_lines};
 ghost use Rattle.clear_texts.specs.Laws.{PaidChargesRise, rows_of};
 ghost use Rattle.clear_texts.specs.Paid.{ArePiecesOf, statement_paid};
-ghost use Rattle.clear_texts.specs.Records.{IsHead};
+ghost use Rattle.clear_records.specs.Records.{IsHead};
 ghost use Rattle.clear_texts.specs.Text.{text_of_rows};
 
 /// Where the rows are those of charges with rising months, the lines are those of the charges: for

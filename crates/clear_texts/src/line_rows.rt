@@ -5,7 +5,8 @@ ghost use Rattle.std.specs.Iterator.{YieldsThen};
 ghost use Rattle.std.specs.List.{flat_map};
 ghost use Rattle.clear_texts.specs.Rows.{IsCutOff};
 
-use crate::rows::{RowFault, RowSource};
+use crate::rows::RowSource;
+use clear_records::faults::RowFault;
 use std::alloc::AllocError;
 
 /// A row that is told in a line.

@@ -8,13 +8,14 @@ ghost use Rattle.clear_texts.specs.Paid.{ArePiecesOf, statement_paid};
 ghost use Rattle.clear_texts.specs.PaidSteps.{is_under};
 ghost use Rattle.clear_texts.specs.Rows.{IsCutOffUnless};
 
-use crate::records::StatementHead;
-use crate::rows::{ChargeRow, RowFault, RowSource};
+use crate::rows::{ChargeRow, RowSource};
 use crate::statement::append_statement;
 use clear_book::documents::{ChargeState, Payment};
 use clear_book::rows::PieceRow;
 use clear_book::rules::StoreCause;
 use clear_money::months::Month;
+use clear_records::faults::RowFault;
+use clear_records::statement::StatementHead;
 use std::mem;
 
 /// Appends the statement of a firm, whose charges are paid by the pieces that the source gives up to

@@ -10,9 +10,10 @@ ghost use Rattle.clear_texts.specs.Rows.{IsCutOff};
 use crate::amounts::append_amount;
 use crate::line_rows::{LineRow, append_lines};
 use crate::lines::{append_day, append_month_or_dash, append_number};
-use crate::rows::{RowFault, RowSource};
+use crate::rows::RowSource;
 use crate::whole::append_whole;
 use clear_book::rows::{ReminderRow, RunRow};
+use clear_records::faults::RowFault;
 use std::alloc::{AllocError, Global};
 
 /// Appends the document of a reminder run, whose reminders are those that the source gives up to

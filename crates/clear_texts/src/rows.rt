@@ -1,9 +1,8 @@
 //! The rows of documents, one at a time.
-ghost use Rattle.std.specs.Prelude.{◌≡◌, IfErr, IfOk};
+ghost use Rattle.std.specs.Prelude.{IfErr, IfOk};
 
 use clear_book::documents::{ChargeState, Payment};
-use clear_book::rules::StoreCause;
-use std::alloc::{AllocError, AllocFailed};
+use clear_records::faults::RowFault;
 
 /// The rows of an account: 100,000 credits, and twice 2,400 months.
 pub const MAX_ROWS: u32 = 104_800;
@@ -16,39 +15,10 @@ pub struct ChargeRow {
     pub piece: Option<Payment>,
 }
 
-/// Why no row can be told.
-#[derive(Clone, Copy)]
-pub enum RowFault {
-    /// There was no memory.
-    Memory,
-    /// The records could not be read.
-    Store(StoreCause),
-}
-
-impl From<AllocError> for RowFault {
-    ghost use Rattle.clear_texts.specs.declared.rows.RowFault.TheVariants.{Memory};
-
-    ghost from_gives = { λ _ fault. fault ≡ Memory };
-
-    fn from(_error: AllocError) -> RowFault {
-        RowFault::Memory
-    }
-}
-
-impl<T: Drop> From<AllocFailed<T>> for RowFault {
-    ghost use Rattle.clear_texts.specs.declared.rows.RowFault.TheVariants.{Memory};
-
-    ghost from_gives = { λ _ fault. fault ≡ Memory };
-
-    fn from(_error: AllocFailed<T>) -> RowFault {
-        RowFault::Memory
-    }
-}
-
 /// A source of the rows of a document.
 pub trait RowSource {
     ghost use Rattle.std.specs.Prelude.{Option};
-    ghost use Rattle.clear_texts.specs.declared.rows.RowFault.{RowFault};
+    ghost use Rattle.clear_records.specs.declared.faults.RowFault.{RowFault};
 
     /// What the document tells one after another.
     type Row: Drop;

@@ -16,11 +16,12 @@ use crate::lines::{
     append_day, append_interest_credit, append_missing, append_month, append_month_or_dash,
     append_number, append_row,
 };
-use crate::rows::{ChargeRow, MAX_ROWS, RowFault, RowSource};
+use crate::rows::{ChargeRow, MAX_ROWS, RowSource};
 use crate::whole::append_whole;
 use clear_book::documents::{FirmAccount, Payment};
 use clear_book::rules::StoreCause;
 use clear_money::months::Month;
+use clear_records::faults::RowFault;
 use std::alloc::{AllocError, Global};
 
 /// Appends the statement of a firm with these credits for interest and months without a report,

@@ -13,13 +13,14 @@ ghost use Rattle.clear_texts.specs.Rows.{IsCutOffAdding};
 use crate::amounts::append_amount;
 use crate::line_rows::{LineRow, append_lines};
 use crate::lines::{append_day, append_number};
-use crate::rows::{RowFault, RowSource};
+use crate::rows::RowSource;
 use crate::whole::append_whole;
 use clear_bank::lines::Purpose;
 use clear_book::rows::BankRow;
 use clear_book::rules::StoreCause;
 use clear_money::days::Day;
 use clear_money::numbers::EmployerNo;
+use clear_records::faults::RowFault;
 use std::alloc::{AllocError, Global};
 
 /// Appends the document of lines in suspense on a day, which are those that the source gives up to

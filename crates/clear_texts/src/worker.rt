@@ -9,37 +9,8 @@ use crate::lines::{append_day, append_month, append_number};
 use crate::whole::append_whole;
 use clear_book::documents::EarnedLine;
 use clear_book::rows::{ClaimRow, ClaimState};
-use clear_money::days::Day;
-use clear_money::numbers::WorkerNo;
+use clear_records::worker::WorkerAccount;
 use std::alloc::{AllocError, Global};
-use std::marker::Model;
-
-/// What is told of a worker on a day.
-#[derive(Drop)]
-pub struct WorkerAccount {
-    pub worker: WorkerNo,
-    pub day: Day,
-    /// What it has earned, by firm, then month.
-    pub earned: Vec<EarnedLine>,
-    /// The claims for it that aren't withdrawn, by their numbers.
-    pub claims: Vec<ClaimRow>,
-    /// In cents.
-    pub balance: u64,
-}
-
-impl Model for WorkerAccount {
-    ghost use Rattle.clear_book.specs.Documents.Worker.{WorkerAccount as Account};
-
-    ghost Value = { Account };
-
-    ghost view = { λ a. record {
-      worker = a.worker;
-      day = a.day;
-      earned = a.earned.items;
-      claims = a.claims.items;
-      balance = a.balance;
-    } };
-}
 
 /// Appends the document of a worker. A refusal, for want of memory, leaves the text as it was.
 pub fn worker_text(

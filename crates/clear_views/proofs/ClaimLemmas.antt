@@ -14,7 +14,7 @@ use Rattle.clear_laws.proofs.EntitlementLemmas.{has_wages-is_employed, table_ent
 use Rattle.clear_laws.proofs.LawsLemmas.{lawful_small}
 use Rattle.clear_rules.specs.declared.decide.claim.ClaimView.{ClaimView}
 use Rattle.clear_rules.specs.Views.Claim.{IsClaimView}
-use Rattle.clear_texts.proofs.WorkerLemmas.{both, counted}
+use Rattle.clear_records.proofs.WorkerLemmas.{both, counted}
 use Rattle.clear_views.proofs.ViewLemmas.{has_row}
 
 -- a worker's claims, each counted unless it is withdrawn, sum to those that aren't

@@ -11,8 +11,8 @@ ghost use Rattle.clear_schema.specs.Held.{HasTables};
 use clear_book::rules::StoreCause;
 use clear_money::numbers::WorkerNo;
 use clear_payouts::claims::worker_claims;
+use clear_records::balance::claimed_cents;
 use clear_schema::fault::Fault;
-use clear_texts::balance::claimed_cents;
 use sqlite::{Alter, Transaction};
 
 /// The claims for a worker that aren't withdrawn, in cents.

@@ -17,8 +17,8 @@ use clear_firms::rates::rate_table;
 use clear_firms::wages::worker_wages;
 use clear_money::numbers::{EmployerNo, WorkerNo};
 use clear_money::rates::RateTable;
+use clear_records::balance::earned_cents;
 use clear_schema::fault::Fault;
-use clear_texts::balance::earned_cents;
 use sqlite::{Alter, Transaction};
 
 /// What a worker has earned.

@@ -1,7 +1,7 @@
 use Rattle.std.proofs.Common.{◌++◌, ◌∙◌}
 use Rattle.std.proofs.lemmas.Result.{err_from_is_err_and}
 use Rattle.clear_book.specs.Documents.Worker.{worker_text}
-use Rattle.clear_texts.proofs.WorkerLemmas.{account_is, claimed_below, earned_below, wages_right}
+use Rattle.clear_records.proofs.WorkerLemmas.{account_is, claimed_below, earned_below, wages_right}
 use Rattle.clear_texts.proofs.documents.worker_document.Goals as goal
 
 pub returns-in_err-account-clause-fault : goal.returns-in_err-account-clause-fault

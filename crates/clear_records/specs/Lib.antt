@@ -1,0 +1,4 @@
+pub mod Earned
+pub mod Found
+pub mod Records
+pub mod Told

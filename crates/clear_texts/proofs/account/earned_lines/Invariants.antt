@@ -1,6 +1,0 @@
-use Rattle.std.proofs.Common.{◌≡◌, map, take}
-use Rattle.clear_texts.specs.Earned.{earned_told}
-use Rattle.clear_texts.proofs.account.earned_lines.Given as goal
-
-abbrev pub invariant-loop-row : goal.invariant-loop-row
-invariant-loop-row l = l.lines.items ≡ map (earned_told l.rates) (take l.row-index l.rows)
