@@ -1,2 +1,3 @@
 pub mod CrashLemmas
+pub mod LeftLemmas
 pub mod SeenLemmas

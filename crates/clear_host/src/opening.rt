@@ -37,8 +37,10 @@ pub(crate) fn open_database<S: Start>(
 {
     let files = open_files(rt, path, start)?;
     let seed = random_seed(rt)?;
-    let connection = open_connection(rt.alloc(), files, store_options(seed))?;
-    Ok(connection)
+    match open_connection(rt.alloc(), files, store_options(seed)) {
+        Ok(connection) => Ok(connection),
+        Err(refusal) => Err(NotOpened::from(refusal.error)),
+    }
 }
 
 // Opens the two files: that of the database has to stand there, and a log that is missing is made.
