@@ -1,4 +1,5 @@
 pub mod ConfirmLemmas
+pub mod CreateLemmas
 pub mod FirstLemmas
 pub mod LookLemmas
 pub mod MakeLemmas

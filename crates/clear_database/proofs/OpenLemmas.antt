@@ -1,23 +1,22 @@
 -- Finding the store in a database.
-use Rattle.std.proofs.Common.{◌≡◌, ◌≢◌, Bool, refl, ℕ, [], ◌∷◌, IsTrue, OnOk, IfErr, Ok, Err, Result, ap, drop, length, sym, subst, ◌∙◌}
+use Rattle.std.proofs.Common.{◌≡◌, refl, ℕ, [], ◌∷◌, IsTrue, ap, drop, length, sym, subst, ◌∙◌}
 use Rattle.sqlite.specs.Effect.{Database, IsDatabase}
-use Rattle.sqlite.specs.State.{State, IsLive, IsUnchanged}
+use Rattle.sqlite.specs.Schema.{Schema}
+use Rattle.sqlite.specs.State.{State, HasCleanDisk, IsLive, Survives}
 use Rattle.sqlite.specs.Tree.{Trees}
 use Rattle.clear_rows.specs.Stands.{Stands}
 use Rattle.clear_rows.proofs.Reopened.{found_by_trees}
 use Rattle.clear_values.specs.Tables.{Tables}
-use Rattle.clear_values.specs.declared.causes.StoreCause.TheVariants.{Constraint, Row, Other}
-use Rattle.clear_schema.specs.declared.fault.Fault.{Fault}
-use Rattle.clear_schema.specs.declared.fault.Fault.TheVariants.{Memory, Store}
-use Rattle.clear_schema.specs.declared.fault.OpenFault.{OpenFault}
-use Rattle.clear_schema.specs.declared.fault.OpenFault.TheVariants.{Failed}
-use Rattle.clear_schema.specs.Faults.{IsOfDisk, IsWrong, other_layout}
-use Rattle.clear_schema.specs.Held.{HasMeta, HasOtherLayout, IsStore, StandsAs, StandsOtherwise, TellsAs, TellsSchema}
-use Rattle.sqlite.specs.Schema.{Schema}
-use Rattle.clear_database.specs.Later.{later_schema, more_layout}
-use Rattle.clear_schema.specs.Schema.{Layout, all_tables, store_schema, tables_of}
-use Rattle.clear_schema.specs.Values.{counts_of, counts_shown, meta_shown, numbered_row}
 use Rattle.clear_schema.specs.declared.counts.Counts.{Counts}
+use Rattle.clear_schema.specs.declared.fault.OpenFault.TheVariants.{WrongVersion}
+use Rattle.clear_schema.specs.Faults.{IsWrong}
+use Rattle.clear_schema.specs.Held.{HasMeta, HasOtherLayout, HasTables, IsStore, StandsAs, StandsOtherwise, TellsAs, TellsSchema}
+use Rattle.clear_schema.specs.Schema.{Layout, all_tables, store_schema, tables_of, this_schema}
+use Rattle.clear_schema.specs.Values.{counts_of, counts_shown, meta_shown, numbered_row}
+use Rattle.clear_database.specs.Later.{later_schema, more_layout}
+use Rattle.clear_database.specs.Opening.{IsBelowZero, TellsNoNumber}
+use Rattle.clear_database.specs.Outcomes.{OpensStore, RefusesToOpen}
+use Rattle.clear_database.specs.Still.{IsStill}
 
 -- the first table of our schema is `meta`
 pub ours_begins : (s : Schema) → s ≡ store_schema → HasMeta s
@@ -62,37 +61,55 @@ module _ (P : Database → Type 0) (sound : (db : Database) → P db → IsDatab
   is_seen = subst P (sym settled) is_kept
 
   -- and a call that changes nothing leaves it
-  pub still : (new : State) → IsUnchanged old new → P new.now × P new.committed
-  still new same = (subst P (sym same.0.now_is) is_seen, subst P (sym same.0.committed_is) is_kept)
+  still_seen : (new : State) → IsStill old new → P new.now × P new.committed
+  still_seen new still = (subst P (sym still.now_is) is_seen, subst P (sym still.committed_is) is_kept)
 
 -- so it sees the number that the database tells
 pub tells_seen : (number : ℕ) (old : State) → old.now ≡ old.committed → IsLive old → IsTrue old.is_open → TellsAs number old.committed.trees → TellsSchema number old.now
 tells_seen number = is_seen (TellsSchema number) (λ _ is. is.sound)
 
--- ---- what is answered where the number is ours
-
--- what holds in any case holds of `Ok`
-pub on_ok : {A E : Type 0} (r : Result A E) (X : Type 0) → X → OnOk r X
-on_ok (Ok a) X x = x
-on_ok (Err e) X x = tt
-
--- the fault of another layout tells no number
-pub tells_no_number : {A : Type 0} (r : Result A OpenFault) (X : Type 0) (this found : ℕ) → IfErr r (λ fault. (fault ≡ other_layout) × X) → IfErr r (IsWrong this found)
-tells_no_number (Ok a) X this found is = tt
-tells_no_number (Err fault) X this found is = subst (IsWrong this found) (sym is.0) tt
-
--- it is the only one, and no other layout is taken
-pub refuses_other : {A : Type 0} (r : Result A OpenFault) (ours : Bool) (X : Type 0) → OnOk r (IsTrue ours) → IfErr r (λ fault. (fault ≡ other_layout) × X) → (IsTrue ours → ⊥) → OnOk r ⊥ × IfErr r (λ fault. fault ≢ Failed Memory → fault ≡ other_layout)
-refuses_other (Ok a) ours X ok err not = (not ok, tt)
-refuses_other (Err fault) ours X ok err not = (tt, λ _. err.0)
-
--- a fault of the disk is this one, too, or want of memory
-pub disk_or_memory : (fault : Fault) → IsOfDisk fault → Failed fault ≢ Failed Memory → Failed fault ≡ other_layout
-disk_or_memory Memory disk not = absurd (not refl)
-disk_or_memory (Store Constraint) disk not = absurd (disk.0 refl)
-disk_or_memory (Store Row) disk not = absurd (disk.1 refl)
-disk_or_memory (Store Other) disk not = refl
-
 -- a connection outside of a transaction sees a database of another layout
 pub other_seen : (old : State) → old.now ≡ old.committed → IsLive old → IsTrue old.is_open → StandsOtherwise old.committed.trees → HasOtherLayout old.now
 other_seen = is_seen HasOtherLayout (λ _ is. is.tells.sound)
+
+-- ---- what an open answers
+
+module _ (old new : State) (settled : IsTrue old.is_open → old.now ≡ old.committed) (live : IsLive old)
+    (clean : HasCleanDisk new → HasCleanDisk old) (still : HasCleanDisk new → IsTrue new.is_open → IsStill old new) (survives : Survives old new (λ _. ⊥)) where
+  -- a database of our layout is taken
+  pub opens : old.now.schema ≡ store_schema → (HasCleanDisk new → IsTrue new.is_open)
+      → (HasCleanDisk new → (number : ℕ) → TellsSchema number old.now → number ≡ this_schema)
+      → (HasCleanDisk new → ¬ TellsNoNumber old.now) → (HasCleanDisk new → ¬ IsBelowZero old.now) → OpensStore old new
+  opens ours is_open right numbered not_below = record {
+    clean = clean;
+    is_open = is_open;
+    found = λ honest t stands.
+        let same = still honest (is_open honest) in
+        let both = still_seen (HasTables t) (λ _ it. it.sound) old (settled same.was_open) live same.was_open stands new same in
+        record { is_open = is_open honest; now = both.0; committed = both.1 };
+    right = λ honest number tells.
+        let on = (still honest (is_open honest)).was_open in
+        right honest number (tells_seen number old (settled on) live on tells);
+    only_ours = ours;
+    not_other = λ honest other.
+        let on = (still honest (is_open honest)).was_open in
+        (other_seen old (settled on) live on other).other ours;
+    numbered = numbered;
+    not_below_zero = not_below;
+    still = λ honest. still honest (is_open honest);
+    survives = survives;
+  }
+
+  -- one of another number, or of none, is refused with this
+  pub refuses_version : (told : ℕ) → (HasCleanDisk new → (number : ℕ) → TellsSchema number old.now → IsWrong this_schema number (WrongVersion told))
+      → (HasCleanDisk new → TellsNoNumber old.now → told ≡ 0) → (HasCleanDisk new → ¬ IsBelowZero old.now) → RefusesToOpen old (WrongVersion told) new
+  refuses_version told wrong none not_below = record {
+    clean = clean;
+    version = λ honest number tells on. wrong honest number (tells_seen number old (settled on) live on tells);
+    other = λ honest other on. absurd ((wrong honest this_schema (other_seen old (settled on) live on other).tells).1 refl);
+    no_number = λ honest unnumbered number is. let same : told ≡ number = cc in sym same ∙ none honest unnumbered;
+    below_zero = not_below;
+    cause = λ honest known why is. absurd cc;
+    still = still;
+    survives = survives;
+  }

@@ -1,19 +1,17 @@
 //! Making the tables of an office without requests.
-ghost use Rattle.std.specs.Prelude.{◌≡◌, ◌≢◌, ◌↔◌, ℕ, false, true, [], IsTrue, IfErr, OnErr, OnOk};
+ghost use Rattle.std.specs.Prelude.{◌≡◌, ◌↔◌, false, true, [], IsTrue, IfErr, OnErr, OnOk};
 ghost use Rattle.sqlite.specs.Effect.{IsDatabase};
 ghost use Rattle.sqlite.specs.Held.{state};
 ghost use Rattle.sqlite.specs.State.{HasCleanDisk, KeepsCommit, Survives};
-ghost use Rattle.sqlite.specs.Tree.{Trees};
 ghost use Rattle.sqlite_keyed.specs.Keyed.{has_key, insert_by};
 ghost use Rattle.clear_values.specs.Ranges.{AreRates};
 ghost use Rattle.clear_values.specs.Tables.{Tables};
-ghost use Rattle.clear_schema.specs.Faults.{IsOfDisk, TellsOutOfRange};
+ghost use Rattle.clear_schema.specs.Faults.{IsOfDisk};
 ghost use Rattle.clear_database.specs.First.{first_tables};
-ghost use Rattle.clear_schema.specs.Held.{HasTables, StandsFor, TellsSchema};
+ghost use Rattle.clear_schema.specs.Held.{HasTables, StandsFor};
 ghost use Rattle.clear_database.specs.Making.{IsMade, rate_number};
-ghost use Rattle.clear_database.specs.Opening.{IsBelowZero, TellsNoNumber, TellsNumberOrNone};
+ghost use Rattle.clear_database.specs.Outcomes.{CreatesStore, RefusesToCreate};
 ghost use Rattle.clear_schema.specs.Schema.{no_schema, store_schema};
-ghost use Rattle.clear_database.specs.Still.{IsStill};
 
 use crate::make::make_all;
 use crate::open::found_schema;
@@ -29,46 +27,16 @@ use sqlite_schema::schema::Schema;
 /// one transaction. A database that has a table, an index or a view is refused: where it tells a number
 /// in `meta`, by `WrongVersion` with that one, and otherwise with 0. A refusal leaves any database as
 /// it was.
-pub fn create_in<S: Alter>(conn: &mut Connection<S>, rates: &RateTable) -> Result<(), OpenFault>
+pub(crate) fn create_in<S: Alter>(
+    conn: &mut Connection<S>,
+    rates: &RateTable,
+) -> Result<(), OpenFault>
     requires { conn.old.in_transaction ≡ false }
     ensures mode { conn.new.in_transaction ≡ false }
-    ensures created { HasCleanDisk (state S.Store conn.new)
-        → (state S.Store conn.old).now.schema ≡ no_schema
-        → OnOk result (HasTables (first_tables rates.now) (state S.Store conn.new).now
-        × HasTables (first_tables rates.now) (state S.Store conn.new).committed) }
-    ensures open { HasCleanDisk (state S.Store conn.new)
-        → OnOk result (IsTrue (state S.Store conn.new).is_open) }
-    ensures crash { (state S.Store conn.old).now.schema ≡ no_schema
-        → Survives (state S.Store conn.old) (state S.Store conn.new)
-        (StandsFor (first_tables rates.now)) }
-    ensures alone { HasCleanDisk (state S.Store conn.new)
-        → (state S.Store conn.old).now.schema ≡ no_schema
-        → OnOk result ((trees : Trees) → (state S.Store conn.new).may_leave trees
-        → StandsFor (first_tables rates.now) trees) }
-    ensures empty { HasCleanDisk (state S.Store conn.new)
-        → (state S.Store conn.old).now.schema ≡ no_schema
-        → (told : ℕ) → IfErr result (λ fault. fault ≢ OpenFault.WrongVersion told) }
-    ensures only_empty { OnOk result ((state S.Store conn.old).now.schema ≡ no_schema) }
-    ensures there { HasCleanDisk (state S.Store conn.new)
-        → (number : ℕ) → TellsSchema number (state S.Store conn.old).now
-        → OnOk result ⊥
-        × IfErr result (λ fault. (told : ℕ) → fault ≡ OpenFault.WrongVersion told
-        → told ≡ number) }
-    // No number is told but 0 where no `meta` of ours stands first, or it has no row.
-    ensures no_number { HasCleanDisk (state S.Store conn.new)
-        → TellsNoNumber (state S.Store conn.old).now
-        → IfErr result (λ fault. (told : ℕ) → fault ≡ OpenFault.WrongVersion told → told ≡ 0) }
-    ensures below_zero { HasCleanDisk (state S.Store conn.new)
-        → IsBelowZero (state S.Store conn.old).now → IfErr result TellsOutOfRange }
-    // A refusal changes nothing, whatever the database is.
-    ensures rests { HasCleanDisk (state S.Store conn.new) → IsTrue (state S.Store conn.new).is_open
-        → OnErr result (IsStill (state S.Store conn.old) (state S.Store conn.new)) }
-    ensures rests_after { (state S.Store conn.old).now.schema ≢ no_schema
-        → Survives (state S.Store conn.old) (state S.Store conn.new) (λ _. ⊥) }
-    ensures cause { HasCleanDisk (state S.Store conn.new)
-        → TellsNumberOrNone (state S.Store conn.old).now
-        → IfErr result (λ fault. (why : Fault) → fault ≡ OpenFault.Failed why → IsOfDisk why) }
-    ensures clean { HasCleanDisk (state S.Store conn.new) → HasCleanDisk (state S.Store conn.old) }
+    ensures created { OnOk result
+        (CreatesStore rates.now (state S.Store conn.old) (state S.Store conn.new)) }
+    ensures refused { IfErr result (λ fault.
+        RefusesToCreate rates.now (state S.Store conn.old) fault (state S.Store conn.new)) }
 {
     // For what it says of a connection outside of a transaction.
     let _outside = conn.is_autocommit();
@@ -95,30 +63,20 @@ fn is_empty(schema: &Schema) -> bool
 // Makes the tables of an office without requests in an empty database: with its opening rates, in
 // one transaction.
 fn create_tables<S: Alter>(conn: &mut Connection<S>, rates: &RateTable) -> Result<(), Fault>
-    requires { conn.old.in_transaction ≡ false }
+    requires mode { conn.old.in_transaction ≡ false }
+    requires empty { (state S.Store conn.old).now.schema ≡ no_schema }
     ensures mode { conn.new.in_transaction ≡ false }
-    ensures created { HasCleanDisk (state S.Store conn.new)
-        → (state S.Store conn.old).now.schema ≡ no_schema
-        → OnOk result (HasTables (first_tables rates.now) (state S.Store conn.new).now
-        × HasTables (first_tables rates.now) (state S.Store conn.new).committed) }
-    ensures open { HasCleanDisk (state S.Store conn.new)
-        → OnOk result (IsTrue (state S.Store conn.new).is_open) }
-    ensures crash { (state S.Store conn.old).now.schema ≡ no_schema
-        → Survives (state S.Store conn.old) (state S.Store conn.new)
-        (StandsFor (first_tables rates.now)) }
-    ensures alone { HasCleanDisk (state S.Store conn.new)
-        → (state S.Store conn.old).now.schema ≡ no_schema
-        → OnOk result ((trees : Trees) → (state S.Store conn.new).may_leave trees
-        → StandsFor (first_tables rates.now) trees) }
+    ensures created { OnOk result
+        (CreatesStore rates.now (state S.Store conn.old) (state S.Store conn.new)) }
     ensures undone { HasCleanDisk (state S.Store conn.new) → IsTrue (state S.Store conn.new).is_open
-        → OnErr result (((state S.Store conn.new).now ≡ (state S.Store conn.old).committed)
+        → OnErr result (IsTrue (state S.Store conn.old).is_open
+        × ((state S.Store conn.new).now ≡ (state S.Store conn.old).committed)
         × ((state S.Store conn.new).committed ≡ (state S.Store conn.old).committed)) }
-    ensures was_open { HasCleanDisk (state S.Store conn.new)
-        → IsTrue (state S.Store conn.new).is_open
-        → OnErr result (IsTrue (state S.Store conn.old).is_open) }
-    ensures cause { HasCleanDisk (state S.Store conn.new)
-        → (state S.Store conn.old).now.schema ≡ no_schema → IfErr result IsOfDisk }
-    ensures clean { HasCleanDisk (state S.Store conn.new) → HasCleanDisk (state S.Store conn.old) }
+    ensures crash { OnErr result (Survives (state S.Store conn.old) (state S.Store conn.new)
+        (StandsFor (first_tables rates.now))) }
+    ensures cause { HasCleanDisk (state S.Store conn.new) → IfErr result IsOfDisk }
+    ensures clean { OnErr result (HasCleanDisk (state S.Store conn.new)
+        → HasCleanDisk (state S.Store conn.old)) }
 {
     let mut tx = conn.transaction();
     put_first(&mut tx, rates)?;

@@ -1,16 +1,13 @@
 //! Finding the store in a database that it was made in.
-ghost use Rattle.std.specs.Prelude.{◌≡◌, ◌≢◌, false, ℕ, negsuc, [], ◌∷◌, Some, None};
+ghost use Rattle.std.specs.Prelude.{◌≡◌, false, ℕ, negsuc, [], ◌∷◌, Some, None};
 ghost use Rattle.std.specs.Prelude.{IsSome, IsTrue, Ok, OnOk, IfOk, IfErr};
 ghost use Rattle.sqlite.specs.declared.types.Value.TheVariants.{Int};
 ghost use Rattle.sqlite.specs.Held.{state};
 ghost use Rattle.sqlite.specs.State.{HasCleanDisk, Survives, IsUnchanged};
-ghost use Rattle.clear_values.specs.Tables.{Tables};
-ghost use Rattle.clear_schema.specs.Faults.{IsOfDisk, IsOfRowOrDisk, IsWrong, TellsOutOfRange};
-ghost use Rattle.clear_schema.specs.Faults.{other_layout};
-ghost use Rattle.clear_schema.specs.Held.{HasMeta, HasTables, StandsFor, StandsOtherwise};
-ghost use Rattle.clear_schema.specs.Held.{TellsAs, TellsSchema, this_schema};
+ghost use Rattle.clear_schema.specs.Faults.{IsOfDisk, IsOfRowOrDisk};
+ghost use Rattle.clear_schema.specs.Held.{HasMeta, TellsSchema};
 ghost use Rattle.clear_database.specs.Opening.{IsBelowZero, TellsNoNumber, TellsNumberOrNone};
-ghost use Rattle.clear_schema.specs.Schema.{store_schema};
+ghost use Rattle.clear_database.specs.Outcomes.{OpensStore, RefusesToOpen};
 ghost use Rattle.clear_database.specs.Still.{IsStill};
 ghost use Rattle.clear_schema.specs.Values.{number as stored_number};
 
@@ -24,67 +21,24 @@ use sqlite::{Alter, Connection, Error, Row};
 /// Tells whether the database is a store of this program, and which number it has otherwise. Where it
 /// tells our number, but has other tables or indexes than ours,
 /// `Failed(Fault::Store(StoreCause::Other))`.
-pub fn open_tables<S: Alter>(conn: &mut Connection<S>) -> Result<(), OpenFault>
+pub(crate) fn open_tables<S: Alter>(conn: &mut Connection<S>) -> Result<(), OpenFault>
     requires { conn.old.in_transaction ≡ false }
     ensures mode { conn.new.in_transaction ≡ false }
-    ensures found { HasCleanDisk (state S.Store conn.new)
-        → (t : Tables) → StandsFor t (state S.Store conn.old).committed.trees
-        → IsTrue (state S.Store conn.old).is_open
-        → OnOk result (HasTables t (state S.Store conn.new).now
-        × HasTables t (state S.Store conn.new).committed) }
-    ensures version { HasCleanDisk (state S.Store conn.new)
-        → (number : ℕ) → TellsAs number (state S.Store conn.old).committed.trees
-        → IsTrue (state S.Store conn.old).is_open
-        → OnOk result (number ≡ this_schema) × IfErr result (IsWrong this_schema number) }
-    ensures only_ours { OnOk result ((state S.Store conn.old).now.schema ≡ store_schema) }
-    ensures other { HasCleanDisk (state S.Store conn.new)
-        → StandsOtherwise (state S.Store conn.old).committed.trees
-        → IsTrue (state S.Store conn.old).is_open → OnOk result ⊥
-        × IfErr result (λ fault. fault ≢ OpenFault.Failed Fault.Memory → fault ≡ other_layout) }
-    ensures empty { HasCleanDisk (state S.Store conn.new)
-        → TellsNoNumber (state S.Store conn.old).now
-        → OnOk result ⊥
-        × IfErr result (λ fault. (told : ℕ) → fault ≡ OpenFault.WrongVersion told → told ≡ 0) }
-    ensures below_zero { HasCleanDisk (state S.Store conn.new)
-        → IsBelowZero (state S.Store conn.old).now
-        → OnOk result ⊥ × IfErr result TellsOutOfRange }
-    ensures open { HasCleanDisk (state S.Store conn.new)
-        → OnOk result (IsTrue (state S.Store conn.new).is_open) }
-    ensures cause { HasCleanDisk (state S.Store conn.new)
-        → TellsNumberOrNone (state S.Store conn.old).now
-        → IfErr result (λ fault. (why : Fault) → fault ≡ OpenFault.Failed why → IsOfDisk why) }
-    ensures clean { HasCleanDisk (state S.Store conn.new) → HasCleanDisk (state S.Store conn.old) }
-    // Nothing changes, whatever the database is.
-    ensures still { HasCleanDisk (state S.Store conn.new)
-        → IsTrue (state S.Store conn.new).is_open
-        → IsStill (state S.Store conn.old) (state S.Store conn.new) }
-    ensures survives { Survives (state S.Store conn.old) (state S.Store conn.new) (λ _. ⊥) }
+    ensures opened { OnOk result (OpensStore (state S.Store conn.old) (state S.Store conn.new)) }
+    ensures refused { IfErr result (λ fault.
+        RefusesToOpen (state S.Store conn.old) fault (state S.Store conn.new)) }
 {
-    let schema = conn.schema();
-    let ours = has_this_layout(schema);
+    let ours = has_this_layout(conn.schema());
     // For what it says of a connection outside of a transaction.
     let _outside = conn.is_autocommit();
-    let found = match found_schema(conn) {
-        Ok(found) => found,
+    let number = match found_schema(conn) {
+        Ok(Some(number)) => number,
+        Ok(None) => return Err(OpenFault::WrongVersion(0)),
         Err(fault) => return Err(OpenFault::Failed(fault)),
     };
-    match found {
-        Some(number) => {
-            if number == SCHEMA {
-                taken_if(ours)
-            } else {
-                Err(OpenFault::WrongVersion(number))
-            }
-        }
-        None => Err(OpenFault::WrongVersion(0)),
+    if number != SCHEMA {
+        return Err(OpenFault::WrongVersion(number));
     }
-}
-
-// A database of our number is a store where its layout is ours.
-fn taken_if(ours: bool) -> Result<(), OpenFault>
-    ensures ok { OnOk result (IsTrue ours) }
-    ensures err { IfErr result (λ fault. (fault ≡ other_layout) × (ours ≡ false)) }
-{
     if ours {
         Ok(())
     } else {

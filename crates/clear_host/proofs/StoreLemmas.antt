@@ -1,10 +1,10 @@
 -- What a connection on files sees, by what the files hold.
-use Rattle.std.proofs.Common.{◌≡◌, ◌≢◌, ◌∙◌, ℕ, IsTrue, ap, inl, inr, refl, sym, subst}
+use Rattle.std.proofs.Common.{◌≡◌, ◌≢◌, ◌∙◌, ℕ, ap, inl, inr, refl, sym, subst}
 use Rattle.sqlite_wal.specs.Recovery.{Image}
 use Rattle.sqlite.specs.Effect.{Database, IsDatabase}
 use Rattle.sqlite.specs.Files.{AreFoundIn, HoldsDatabase, IsNothing}
 use Rattle.sqlite.specs.Schema.{Schema}
-use Rattle.sqlite.specs.State.{State}
+use Rattle.sqlite.specs.State.{State, HasCleanDisk}
 use Rattle.sqlite.specs.Tree.{Trees}
 use Rattle.clear_book.specs.Tables.{Tables}
 use Rattle.clear_schema.specs.Held.{HasObjects, HasOtherLayout, HasTables, StandsFor, StandsOtherwise, TellsAs, TellsSchema, this_schema}
@@ -12,6 +12,7 @@ use Rattle.clear_schema.specs.Schema.{no_schema, this_layout}
 use Rattle.clear_disk.specs.Seen.{SeesIn}
 use Rattle.clear_disk.proofs.SeenLemmas.{bare_seen, nothing_seen}
 use Rattle.clear_database.specs.Opening.{IsBelowZero, TellsNoNumber, TellsNumberOrNone}
+use Rattle.clear_database.specs.Outcomes.{OpensStore}
 use Rattle.clear_database.specs.Still.{IsStill}
 use Rattle.clear_database.proofs.OpenLemmas.{is_seen, other_seen, tells_as, tells_seen}
 use Rattle.clear_host.specs.Contents.{AreBlameless, HasJust, HaveObjects, HoldsBelowZero, HoldsNoNumber, HoldsNone, HoldsNumberOrNone, HoldsObjects, HoldsOtherLayout, HoldsSchema, HoldsStore, IsBare}
@@ -104,13 +105,12 @@ module _ (image : Image) (s : State) (seen : SeesIn image s) where
       let here = subst (HasTables t) (sym still.now_is) (tables_seen t holds) in
       (here, subst (HasTables t) still.settled here)
 
-  -- they are a store's, where the connection sees nothing else
-  pub ours_seen : ¬ TellsNoNumber s.now → ((number : ℕ) → TellsAs number s.committed.trees → IsTrue s.is_open → number ≡ this_schema)
-      → (IsTrue s.is_open → ¬ StandsOtherwise s.committed.trees) → ¬ IsBelowZero s.now → IsOurs image
-  ours_seen numbered right not_other not_below = record {
-    recovers = found_seen (λ none. numbered (none_told s.now none));
-    only_this = λ number holds. right number (told_seen number holds).0 seen.opened.0.is_open;
-    not_other = λ holds. not_other seen.opened.0.is_open (other_is_seen holds);
-    only_stores = λ none. numbered (unnumbered_seen none);
-    not_below_zero = λ below. not_below (below_seen below);
+  -- they are a store's, where the connection is taken as one
+  pub ours_seen : (new : State) → OpensStore s new → HasCleanDisk new → IsOurs image
+  ours_seen new opened clean = record {
+    recovers = found_seen (λ none. opened.numbered clean (none_told s.now none));
+    only_this = λ number holds. opened.right clean number (told_seen number holds).0;
+    not_other = λ holds. opened.not_other clean (other_is_seen holds);
+    only_stores = λ none. opened.numbered clean (unnumbered_seen none);
+    not_below_zero = λ below. opened.not_below_zero clean (below_seen below);
   }

@@ -6,41 +6,39 @@ use Rattle.clear_office.proofs.made.make_office.Goals as goal
 
 pub returns-clause-clean : goal.returns-clause-clean
 returns-clause-clean g c honest =
-    c.in_ok-store.ensures.clean (honest_store g.S.Store c.open.result c.in_ok-store.store.conn c.open.ensures.value honest)
+    c.in_ok-store.ensures.created.clean (honest_store g.S.Store c.open.result c.in_ok-store.store.conn c.open.ensures.value honest)
 
 pub returns-clause-created : goal.returns-clause-created
-returns-clause-created g c honest bare =
-    let it = c.in_ok-store.ensures.created (honest_store g.S.Store c.open.result c.in_ok-store.store.conn c.open.ensures.value honest) bare in
-    holds_still g.S.Store c.open.result c.in_ok-store.store.conn c.open.ensures.value (first_tables c.args.rates.now) (record { now = it.0; committed = it.1; left = it.2 })
+returns-clause-created g c honest =
+    let store = c.in_ok-store.ensures.created in
+    let clean = honest_store g.S.Store c.open.result c.in_ok-store.store.conn c.open.ensures.value honest in
+    let made = store.made clean in
+    holds_still g.S.Store c.open.result c.in_ok-store.store.conn c.open.ensures.value (first_tables c.args.rates.now) (record { now = made.now; committed = made.committed; left = store.left clean })
 
 pub returns-clause-keeps : goal.returns-clause-keeps
-returns-clause-keeps g c honest bare =
+returns-clause-keeps g c honest =
     let rates = c.args.rates.now in
-    let it = c.in_ok-store.ensures.created (honest_store g.S.Store c.open.result c.in_ok-store.store.conn c.open.ensures.value honest) bare in
-    keeps_book g.S.Store c.open.result c.in_ok-store.store.conn c.open.ensures.value (first_book rates) (first_tables rates) (first_represents rates) (record { now = it.0; committed = it.1; left = it.2 })
+    let store = c.in_ok-store.ensures.created in
+    let clean = honest_store g.S.Store c.open.result c.in_ok-store.store.conn c.open.ensures.value honest in
+    let made = store.made clean in
+    keeps_book g.S.Store c.open.result c.in_ok-store.store.conn c.open.ensures.value (first_book rates) (first_tables rates) (first_represents rates) (record { now = made.now; committed = made.committed; left = store.left clean })
 
 pub returns-clause-open : goal.returns-clause-open
-returns-clause-open g c honest = opens_still g.S.Store c.open.result c.in_ok-store.store.conn c.open.ensures.value (c.in_ok-store.ensures.open (honest_store g.S.Store c.open.result c.in_ok-store.store.conn c.open.ensures.value honest))
+returns-clause-open g c honest =
+    let clean = honest_store g.S.Store c.open.result c.in_ok-store.store.conn c.open.ensures.value honest in
+    opens_still g.S.Store c.open.result c.in_ok-store.store.conn c.open.ensures.value (c.in_ok-store.ensures.created.made clean).is_open
 
 pub returns-in_err-store : goal.returns-in_err-store
 returns-in_err-store g c =
     let p = err_from_is_err_and c.from_residual.result c.from_residual.ensures.1 in
-    let refused = c.in_err-store.ensures in
+    let left = c.in_err-store.ensures in
     rw (p.1, p.2) (record {
       working = tt;
       clean = tt;
-      clean_left = refused.clean_left;
-      mode_left = refused.mode_left;
+      only_empty = tt;
       created = tt;
       keeps = tt;
       «open» = tt;
-      only_empty = tt;
-      there = refused.there;
-      no_number = refused.no_number;
-      empty = refused.empty;
-      below_zero = refused.below_zero;
-      cause = refused.cause;
-      rests = refused.rests;
-      rests_after = refused.rests_after;
-      crash_left = refused.crash_left;
+      mode_left = left.mode_left;
+      refused = left.refused;
     })
