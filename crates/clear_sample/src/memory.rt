@@ -1,10 +1,8 @@
 //! An office over a new store in memory.
 ghost use Rattle.std.specs.Prelude.{◌≡◌, false, IfSome};
-ghost use Rattle.sqlite.specs.Files.{file_state, over_files};
-ghost use Rattle.sqlite.specs.Held.{state};
+ghost use Rattle.sqlite.specs.Files.{over_files};
 ghost use Rattle.clear_book.specs.Book.{first_book};
 ghost use Rattle.clear_book.specs.Machine.{IsLawful};
-ghost use Rattle.clear_schema.specs.Schema.{no_schema};
 ghost use Rattle.clear_office.specs.Office.{IsHonest, Keeps};
 
 use crate::memory_file::MemoryFile;
@@ -14,7 +12,7 @@ use clear_disk::files::store_options;
 use clear_money::rates::RateTable;
 use clear_office::made::make_office;
 use clear_office::office::Office;
-use sqlite::{Alter, Connection, FileStore, Files};
+use sqlite::{Connection, FileStore, Files};
 use std::alloc::Global;
 
 /// An office without requests over a new store in memory, with these opening rates. None where
@@ -27,24 +25,7 @@ pub fn office_in_memory(alloc: Global, rates: &RateTable) -> Option<Office<FileS
 {
     // No effect at run time: the proof reads from this call that the rates are lawful.
     rates_in_range(rates);
-    match connection_in_memory(alloc) {
-        Some(connection) => office_over(alloc, connection, rates),
-        None => None,
-    }
-}
-
-// An office without requests over a connection on an empty database, whatever keeps that.
-fn office_over<S: Alter + Drop>(
-    alloc: Global,
-    connection: Connection<S>,
-    rates: &RateTable,
-) -> Option<Office<S>>
-    requires { connection.in_transaction ≡ false }
-    ensures working { IfSome result (λ office. office.failed ≡ false) }
-    ensures keeps { IfSome result (λ office. IsHonest S.Store office
-        → (state S.Store connection).now.schema ≡ no_schema
-        → Keeps S.Store office (first_book rates.now)) }
-{
+    let connection = connection_in_memory(alloc)?;
     match make_office(alloc, connection, rates) {
         Ok(office) => Some(office),
         Err(_) => None,
@@ -57,11 +38,10 @@ pub fn law_honest_in_memory(office: &Office<FileStore<MemoryFile>>)
     ensures { IsHonest over_files office.now }
 {}
 
-// A connection on an empty database in two new files in memory. The log's salts need no secret
-// there, so their number is fixed.
+// A connection on two new files in memory. The log's salts need no secret there, so their number is
+// fixed.
 fn connection_in_memory(alloc: Global) -> Option<Connection<FileStore<MemoryFile>>>
     ensures mode { IfSome result (λ conn. conn.in_transaction ≡ false) }
-    ensures empty { IfSome result (λ conn. (file_state conn).now.schema ≡ no_schema) }
 {
     let files = Files {
         log: MemoryFile::new(alloc),
