@@ -1,13 +1,12 @@
 //! The widths of a statement's amounts, and what a refused row leaves.
 use clear_book::documents::{ChargeState, FirmAccount, Payment};
-use clear_book::rules::StoreCause;
 use clear_book::texts::{CreditReference, Name};
 use clear_money::days::Day;
 use clear_money::months::Month;
 use clear_money::numbers::EmployerNo;
-use clear_records::faults::RowFault;
 use clear_texts::rows::{ChargeRow, RowSource};
 use clear_texts::statement::statement;
+use clear_values::causes::{Fault, StoreCause};
 use std::alloc::Global;
 
 // An amount of one cent, the last one in its column, and the first one that is wider.
@@ -70,12 +69,12 @@ impl RowSource for Rows {
 
     ghost next_refuses = { λ _ _ _. ⊤ };
 
-    fn next(&mut self) -> Result<Option<ChargeRow>, RowFault> {
+    fn next(&mut self) -> Result<Option<ChargeRow>, Fault> {
         if self.left > 0 {
             self.left -= 1;
             Ok(row(self.alloc))
         } else if self.refuses {
-            Err(RowFault::Store(StoreCause::Other))
+            Err(Fault::Store(StoreCause::Other))
         } else {
             Ok(None)
         }
@@ -90,7 +89,7 @@ fn leaves(mut rows: Rows, wanted: &str) -> bool {
     };
     let outcome = match statement(alloc, &account, &[], &[], &mut rows, &mut text) {
         Ok(()) => !rows.refuses,
-        Err(RowFault::Store(StoreCause::Other)) => rows.refuses,
+        Err(Fault::Store(StoreCause::Other)) => rows.refuses,
         Err(_) => false,
     };
     outcome && text.as_str() == wanted

@@ -11,7 +11,7 @@ ghost use Rattle.sqlite.specs.contracts.connection.Connection.{the_row};
 ghost use Rattle.clear_schema.specs.Frame.{AnswersJust};
 ghost use Rattle.clear_columns.specs.Reading.{Advances, Begun, IsLeft};
 
-use clear_schema::fault::Fault;
+use clear_schema::fault::{Fault, fault_of};
 use clear_values::causes::StoreCause;
 use sqlite::{Alter, Connection, Error, Row, Rows};
 use sqlite_value::value::ValueRef;
@@ -99,7 +99,9 @@ pub fn next_row<T: StoredTable, S: Alter>(rows: &mut Rows<'_, S>) -> Result<Opti
     ensures advances { Advances S.Store rows.old.conn.now rows.new.conn.now T.shown T.is_in_range
         result }
 {
-    rows.advance()?;
+    if let Err(error) = rows.advance() {
+        return Err(fault_of(error));
+    }
     match rows.get() {
         Some(row) => Ok(Some(T::read(row)?)),
         None => Ok(None),

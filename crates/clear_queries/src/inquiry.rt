@@ -36,7 +36,6 @@ use clear_reading::firm_head::firm_head;
 use clear_reading::lists::tell_list;
 use clear_reading::reminders::tell_reminders;
 use clear_reading::statement::tell_statement;
-use clear_reading::stored::fault_told;
 use clear_reading::suspense::tell_suspense;
 use clear_reading::worker::worker_records;
 use clear_records::statement::StatementHead;
@@ -296,10 +295,8 @@ fn tell_worker<S: Alter>(
     ensures leaves { Leaves S.Store tx.old.conn.now tx.new.conn.now result }
 {
     let records = worker_records(tx, worker)?;
-    match worker_document(alloc, worker, day, &records) {
-        Ok(document) => Ok(Finding::Answer(Answer::Text(document))),
-        Err(fault) => Err(Stop::Fault(fault_told(fault))),
-    }
+    let document = worker_document(alloc, worker, day, &records)?;
+    Ok(Finding::Answer(Answer::Text(document)))
 }
 
 // The payout list of a number.

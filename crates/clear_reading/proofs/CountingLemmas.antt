@@ -3,8 +3,8 @@ use Rattle.std.proofs.Common.{◌≡◌, ◌∙◌, ◌^◌, ◌≤◌, ℕ, ◌
 use Rattle.std.specs.Iterator.{Yields}
 use Rattle.clear_texts.proofs.RowLemmas.{Yields-append}
 use Rattle.clear_texts.specs.Rows.{IsCutOffAdding}
-use Rattle.clear_records.specs.declared.faults.RowFault.{RowFault}
-use Rattle.clear_records.specs.declared.faults.RowFault.TheVariants.{Store}
+use Rattle.clear_schema.specs.declared.fault.Fault.{Fault}
+use Rattle.clear_schema.specs.declared.fault.Fault.TheVariants.{Store}
 use Rattle.clear_values.specs.declared.causes.StoreCause.TheVariants.{Row as OutOfRange}
 
 module _ {S X Count : Type 0} (counted : List X → Count) (gives : S → Option X → S → Type 0) where
@@ -24,6 +24,6 @@ module _ {S X Count : Type 0} (counted : List X → Count) (gives : S → Option
       many = ap (λ n. n + 1) so_far.many ∙ sym (length-append so_far.given (row ∷ []));
     }
 
-    module _ (amount : X → ℕ) (refuses : S → RowFault → S → Type 0) where
+    module _ (amount : X → ℕ) (refuses : S → Fault → S → Type 0) where
       pub too_much : (row : X) → gives mid (Some row) new → 2 ^ 64 ≤ sum_by amount (so_far.given ++ row ∷ []) → IsCutOffAdding gives refuses amount old (Store OutOfRange) new
       too_much row step much = inr (refl, (so_far.given ++ row ∷ [], Yields-append gives old so_far.given mid row new so_far.run step, much))

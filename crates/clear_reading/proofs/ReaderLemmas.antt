@@ -2,6 +2,7 @@
 use Rattle.std.proofs.Common.{◌≡◌, ◌∙◌, ◌<◌, ◌^◌, arith, sum_by, inl, inr, ℕ, List, [], ◌∷◌, ◌++◌, Option, Some, None, Ok, Err, false, refl, sym, ap, subst, append-nil}
 use Rattle.std.specs.List.{AllByRecursion}
 use Rattle.std.specs.Iterator.{Yields, YieldsThen}
+use Rattle.std.specs.Prelude.{IfErr, IfOk, Result}
 use Rattle.std.proofs.lemmas.List.Sums.{sum_by-append}
 use Rattle.sqlite.specs.Held.{Held, state}
 use Rattle.sqlite.specs.Order.{Row}
@@ -11,11 +12,9 @@ use Rattle.sqlite.proofs.Callers.{unchanged_then}
 use Rattle.clear_rows.proofs.Inside.{keeps_both, keeps_none, survives_both, survives_none, unchanged_keeps}
 use Rattle.clear_columns.specs.Reading.{Advances, HasToGive}
 use Rattle.clear_schema.specs.declared.fault.Fault.{Fault}
+use Rattle.clear_schema.specs.declared.fault.Fault.TheVariants.{Memory}
 use Rattle.clear_schema.specs.Faults.{IsOfDisk}
 use Rattle.clear_texts.specs.Rows.{IsCutOff, IsCutOffAdding, IsCutOffUnless}
-use Rattle.clear_records.specs.declared.faults.RowFault.{RowFault}
-use Rattle.clear_records.specs.declared.faults.RowFault.TheVariants.{Memory}
-use Rattle.clear_reading.specs.Faults.{fault_told}
 use Rattle.clear_reading.specs.Reader.{AreAddable, AreRightIn, Tells, TellsOnlyOver}
 use Rattle.clear_reading.specs.Source.{Gives, KeepsLoan, Refuses}
 use Rattle.clear_reading.specs.declared.stored.StoredRows.{StoredRows}
@@ -25,11 +24,11 @@ all_behind : {X : Type 0} (P : X → Type 0) (xs ys : List X) → AllByRecursion
 all_behind P [] ys all = all
 all_behind P (x ∷ xs) ys all = all_behind P xs ys all.1
 
-memory : (why : RowFault) → why ≡ Memory → IsOfDisk (fault_told why)
-memory why is = subst (λ (w : RowFault). IsOfDisk (fault_told w)) (sym is) ((λ e. absurd (cc e)), (λ e. absurd (cc e)))
+memory : (why : Fault) → why ≡ Memory → IsOfDisk why
+memory why is = subst (λ (w : Fault). IsOfDisk w) (sym is) ((λ e. absurd (cc e)), (λ e. absurd (cc e)))
 
 -- amounts that come to too much are those of rows that no further ones make right
-pub adding_unless : {S Row : Type 0} (gives : S → Option Row → S → Type 0) (refuses : S → RowFault → S → Type 0) (amount : Row → ℕ) (old : S) (why : RowFault) (new : S) → IsCutOffAdding gives refuses amount old why new
+pub adding_unless : {S Row : Type 0} (gives : S → Option Row → S → Type 0) (refuses : S → Fault → S → Type 0) (amount : Row → ℕ) (old : S) (why : Fault) (new : S) → IsCutOffAdding gives refuses amount old why new
     → IsCutOffUnless gives refuses (λ rows. sum_by amount rows < 2 ^ 64) old why new
 adding_unless gives refuses amount old why new (inl cut) = inl cut
 adding_unless gives refuses amount old why new (inr (is, (given, run, much))) =
@@ -116,15 +115,15 @@ module _ {S T X : Type 0} (g : Ghosts S) (show : X → Row) (P : X → Type 0) w
 
   -- calls that ended with a refusal: where the rows to come are right, for no fault of a key or of a
   -- row
-  pub record Stopped (AreRight : List X → Type 0) (old : StoredRows S T g) (why : RowFault) (new : StoredRows S T g) : Type 0 where
+  pub record Stopped (AreRight : List X → Type 0) (old : StoredRows S T g) (why : Fault) (new : StoredRows S T g) : Type 0 where
     pub name : KeepsLoan g old new
     pub mode : (conn_of old).in_transaction ≡ false → (conn_of new).in_transaction ≡ false
     pub survives : Survives (state g (conn_of old)) (state g (conn_of new)) (λ _. ⊥)
     pub kept : HasCleanDisk (state g (conn_of new)) → KeepsCommit (state g (conn_of old)) (state g (conn_of new))
-    pub disk : HasCleanDisk (state g (conn_of new)) → (rest : List X) → HasToGive g show (conn_of old) rest → AreRight rest → IsOfDisk (fault_told why)
+    pub disk : HasCleanDisk (state g (conn_of new)) → (rest : List X) → HasToGive g show (conn_of old) rest → AreRight rest → IsOfDisk why
 
   -- rows in their ranges are right
-  stopped : (old new : StoredRows S T g) (why : RowFault) → IsCutOff (Gives g show P) (Refuses g show P) old why new → Stopped (AllByRecursion P) old why new
+  stopped : (old new : StoredRows S T g) (why : Fault) → IsCutOff (Gives g show P) (Refuses g show P) old why new → Stopped (AllByRecursion P) old why new
   stopped old new why (inl (is, (given, inl run))) =
       let all = ran old new given run in
       record { name = all.name; mode = all.mode; survives = all.survives; kept = all.kept; disk = λ clean rest to_give ranges. memory why is }
@@ -136,7 +135,7 @@ module _ {S T X : Type 0} (g : Ghosts S) (show : X → Row) (P : X → Type 0) w
       let b = state g (conn_of last) in
       let c = state g (conn_of new) in
       let all = ran old last given run in
-      let asked : Advances g (conn_of last) (conn_of new) show P (Err (fault_told why)) = refuses.1 in
+      let asked : Advances g (conn_of last) (conn_of new) show P (Err why) = refuses.1 in
       let early : HasCleanDisk c → HasCleanDisk b = was_clean b c asked.survives in
       record {
         name = (refuses.0.0 ∙ all.name.0, refuses.0.1 ∙ all.name.1);
@@ -152,7 +151,7 @@ module _ {S T X : Type 0} (g : Ghosts S) (show : X → Row) (P : X → Type 0) w
       }
 
   -- and so are those that are right besides
-  pub stopped_unless : (IsRight : List X → Type 0) (old new : StoredRows S T g) (why : RowFault) → IsCutOffUnless (Gives g show P) (Refuses g show P) IsRight old why new
+  pub stopped_unless : (IsRight : List X → Type 0) (old new : StoredRows S T g) (why : Fault) → IsCutOffUnless (Gives g show P) (Refuses g show P) IsRight old why new
       → Stopped (λ rows. AllByRecursion P rows × IsRight rows) old why new
   stopped_unless IsRight old new why (inl cut) =
       let all = stopped old new why cut in
@@ -179,7 +178,7 @@ module _ {S T X : Type 0} (g : Ghosts S) (show : X → Row) (P : X → Type 0) w
       }
 
   -- and so are those whose amounts can be added up
-  pub stopped_adding : (amount : X → ℕ) (old new : StoredRows S T g) (why : RowFault) → IsCutOffAdding (Gives g show P) (Refuses g show P) amount old why new → Stopped (AreAddable P amount) old why new
+  stopped_adding : (amount : X → ℕ) (old new : StoredRows S T g) (why : Fault) → IsCutOffAdding (Gives g show P) (Refuses g show P) amount old why new → Stopped (AreAddable P amount) old why new
   stopped_adding amount old new why cut = stopped_unless (λ rows. sum_by amount rows < 2 ^ 64) old new why (adding_unless (Gives g show P) (Refuses g show P) amount old why new cut)
 
   -- where the rows that a reader gave up to its end are right, those that were to come are
@@ -203,13 +202,21 @@ module _ {S T X : Type 0} (g : Ghosts S) (show : X → Row) (P : X → Type 0) w
           survives = all.survives;
         }
 
-    pub cut_off : (why : RowFault) (fault : Fault) → fault ≡ fault_told why → Stopped AreRight old why new → Tells g show (conn_of old) (conn_of new) told_of AreRight (Err fault)
-    cut_off why fault is all =
+    pub cut_off : (why : Fault) → Stopped AreRight old why new → Tells g show (conn_of old) (conn_of new) told_of AreRight (Err why)
+    cut_off why all =
         record {
           written = λ clean rest to_give. tt;
-          cause = λ clean rest to_give right. subst IsOfDisk (sym is) (all.disk clean rest to_give right);
+          cause = all.disk;
           same = λ clean. tt;
           kept = all.kept;
           mode = all.mode;
           survives = all.survives;
         }
+
+  -- so a count of rows whose amounts are added up
+  pub counted : {A : Type 0} (old new : StoredRows S T g) (count_of : List X → A) (amount : X → ℕ) (result : Result A Fault) → IfOk result (λ it. (given : List X) × YieldsThen (Gives g show P) old given None new × (it ≡ count_of given))
+      → IfErr result (λ why. IsCutOffAdding (Gives g show P) (Refuses g show P) amount old why new) → KeepsLoan g old new × Tells g show (conn_of old) (conn_of new) count_of (AreAddable P amount) result
+  counted old new count_of amount (Ok it) all cut = ((done old new all.0 all.1).name, told old new count_of (AreAddable P amount) it all.0 all.1 all.2)
+  counted old new count_of amount (Err why) all cut =
+      let stop = stopped_adding amount old new why cut in
+      (stop.name, cut_off old new count_of (AreAddable P amount) why stop)

@@ -1,5 +1,4 @@
 pub mod Documents
-pub mod Faults
 pub mod Look
 pub mod LookParts
 pub mod Payout

@@ -5,8 +5,6 @@ use Rattle.sqlite.specs.Order.{Row}
 use Rattle.sqlite.specs.Store.{Ghosts}
 use Rattle.clear_columns.specs.Reading.{Advances}
 use Rattle.clear_schema.specs.declared.fault.Fault.{Fault}
-use Rattle.clear_records.specs.declared.faults.RowFault.{RowFault}
-use Rattle.clear_reading.specs.Faults.{fault_told}
 use Rattle.clear_reading.specs.declared.stored.StoredRows.{StoredRows}
 
 module _ {S T : Type 0} (g : Ghosts S) where
@@ -27,5 +25,5 @@ module _ {S T : Type 0} (g : Ghosts S) where
     Gives old found new = Asks old new (Ok found)
 
     -- a call is refused for this
-    abbrev pub Refuses : StoredRows S T g → RowFault → StoredRows S T g → Type 0
-    Refuses old why new = Asks old new (Err (fault_told why))
+    abbrev pub Refuses : StoredRows S T g → Fault → StoredRows S T g → Type 0
+    Refuses old why new = Asks old new (Err why)

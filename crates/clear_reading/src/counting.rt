@@ -4,9 +4,8 @@ ghost use Rattle.std.specs.Iterator.{YieldsThen};
 ghost use Rattle.clear_texts.specs.Rows.{IsCutOffAdding};
 ghost use Rattle.clear_reading.specs.Reader.{AreAddable, Tells};
 
-use crate::stored::{StoredRows, fault_told};
+use crate::stored::StoredRows;
 use clear_columns::rows::StoredTable;
-use clear_records::faults::RowFault;
 use clear_schema::fault::Fault;
 use clear_texts::rows::RowSource;
 use clear_values::causes::StoreCause;
@@ -68,16 +67,13 @@ fn count_source<T: Tally, S: Alter>(
         source.old.rows.now.conn.now source.new.rows.now.conn.now T.counted
         (AreAddable T.Table.is_in_range T.amount) result }
 {
-    match count_all::<T, StoredRows<'_, '_, S, T::Table>>(source) {
-        Ok(count) => Ok(count),
-        Err(fault) => Err(fault_told(fault)),
-    }
+    count_all::<T, StoredRows<'_, '_, S, T::Table>>(source)
 }
 
 // The count of all rows that the source gives up to its end. 2^64 - 1 or more find no memory.
 fn count_all<T: Tally, R: RowSource<Row = <T::Table as StoredTable>::Row>>(
     rows: &mut R,
-) -> Result<T::Count, RowFault>
+) -> Result<T::Count, Fault>
     ensures counted { IfOk result (λ count. (given : List T.Table.Row)
         × YieldsThen R.next_gives rows.old given None rows.new × (count ≡ T.counted given)) }
     ensures refused { IfErr result (λ fault.
@@ -89,13 +85,13 @@ fn count_all<T: Tally, R: RowSource<Row = <T::Table as StoredTable>::Row>>(
             Some(row) => {
                 count = match T::with(count, &row) {
                     Some(more) => more,
-                    None => return Err(RowFault::Store(StoreCause::Row)),
+                    None => return Err(Fault::Store(StoreCause::Row)),
                 }
             }
             None => return Ok(count),
         }
     }
-    Err(RowFault::Memory)
+    Err(Fault::Memory)
 }
 
 /// How many rows of a table there are.

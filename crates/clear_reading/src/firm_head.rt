@@ -13,7 +13,6 @@ ghost use Rattle.clear_schema.specs.Held.{HasTables};
 ghost use Rattle.clear_records.specs.Records.{AreStatementRecords, IsFor, IsHead};
 ghost use Rattle.clear_reading.specs.FirmHead.{AreRead, IsFound};
 
-use crate::stored::fault_told;
 use clear_bank::lines::Purpose;
 use clear_book::rows::EmployerRow;
 use clear_debts::owing::find_account;
@@ -57,10 +56,7 @@ pub fn firm_head<S: Alter>(
     ensures leaves { Leaves S.Store tx.old.conn.now tx.new.conn.now result }
 {
     match find_records(alloc, tx, employer)? {
-        Some(records) => match statement_head(alloc, &records, day) {
-            Ok(head) => Ok(Some(head)),
-            Err(fault) => Err(fault_told(fault)),
-        },
+        Some(records) => Ok(Some(statement_head(alloc, &records, day)?)),
         None => Ok(None),
     }
 }

@@ -8,8 +8,7 @@ ghost use Rattle.clear_reading.specs.Reader.{TellsDocument, TellsOnlyWhere};
 use crate::telling::{DocumentHead, tell_rows};
 use clear_book::documents::Document;
 use clear_payouts::claims::{Claims, read_listed};
-use clear_records::faults::RowFault;
-use clear_schema::fault::Fault;
+use clear_schema::fault::{Fault, fault_of};
 use clear_texts::payout::payout_text;
 use clear_texts::rows::RowSource;
 use clear_values::rows::{ClaimRow, ListRow};
@@ -31,8 +30,10 @@ pub fn tell_list<S: Alter>(
     ensures only { TellsOnlyWhere S.Store conn.old conn.new
         (λ t. AllByRecursion IsClaimRow (listed list.now.list t)) result }
 {
-    let mut rows = read_listed(conn, list.list)?;
-    tell_rows(alloc, list, &mut rows)
+    match read_listed(conn, list.list) {
+        Ok(mut rows) => tell_rows(alloc, list, &mut rows),
+        Err(error) => Err(fault_of(error)),
+    }
 }
 
 // The claims on the list are told, whatever they are.
@@ -50,7 +51,7 @@ impl DocumentHead for ListRow {
         alloc: Global,
         rows: &mut R,
         text: &mut String,
-    ) -> Result<(), RowFault> {
+    ) -> Result<(), Fault> {
         payout_text(alloc, self, rows, text)
     }
 }

@@ -16,7 +16,7 @@ use clear_ledger::requests::{RequestNumbers, read_greatest};
 use clear_ledger::runs::{Runs, read_run};
 use clear_payouts::lists::{Lists, read_list};
 use clear_schema::counts::Counts;
-use clear_schema::fault::Fault;
+use clear_schema::fault::{Fault, fault_of};
 use clear_texts::look::Look;
 use clear_values::callers::Caller;
 use clear_values::causes::StoreCause;
@@ -106,8 +106,10 @@ fn first_counts<S: Alter>(conn: &mut Connection<S>) -> Result<Option<Counts>, Fa
     ensures tells { TellsTables S.Store conn.old conn.new (λ t. Some (counts_of t))
         (λ t. Unit {0}) result }
 {
-    let mut rows = read_counts(conn)?;
-    first_row::<Meta, S>(&mut rows)
+    match read_counts(conn) {
+        Ok(mut rows) => first_row::<Meta, S>(&mut rows),
+        Err(error) => Err(fault_of(error)),
+    }
 }
 
 // The greatest number of the clerks' requests.
@@ -117,8 +119,10 @@ fn find_greatest<S: Alter>(conn: &mut Connection<S>) -> Result<Option<RequestNo>
     ensures tells { TellsTables S.Store conn.old conn.new
         (λ t. greatest_number Clerk t.requests) (λ t. Unit {0}) result }
 {
-    let mut rows = read_greatest(conn, Caller::Clerk)?;
-    first_row::<RequestNumbers, S>(&mut rows)
+    match read_greatest(conn, Caller::Clerk) {
+        Ok(mut rows) => first_row::<RequestNumbers, S>(&mut rows),
+        Err(error) => Err(fault_of(error)),
+    }
 }
 
 fn find_list<S: Alter>(conn: &mut Connection<S>, list: u32) -> Result<Option<ListRow>, Fault>
@@ -127,8 +131,10 @@ fn find_list<S: Alter>(conn: &mut Connection<S>, list: u32) -> Result<Option<Lis
     ensures tells { TellsTables S.Store conn.old conn.new
         (λ t. find_row list_key t.lists (list ∷ [])) (λ t. Unit {0}) result }
 {
-    let mut rows = read_list(conn, list)?;
-    first_row::<Lists, S>(&mut rows)
+    match read_list(conn, list) {
+        Ok(mut rows) => first_row::<Lists, S>(&mut rows),
+        Err(error) => Err(fault_of(error)),
+    }
 }
 
 fn find_run<S: Alter>(conn: &mut Connection<S>, run: u32) -> Result<Option<RunRow>, Fault>
@@ -137,6 +143,8 @@ fn find_run<S: Alter>(conn: &mut Connection<S>, run: u32) -> Result<Option<RunRo
     ensures tells { TellsTables S.Store conn.old conn.new
         (λ t. find_row run_key t.runs (run ∷ [])) (λ t. Unit {0}) result }
 {
-    let mut rows = read_run(conn, run)?;
-    first_row::<Runs, S>(&mut rows)
+    match read_run(conn, run) {
+        Ok(mut rows) => first_row::<Runs, S>(&mut rows),
+        Err(error) => Err(fault_of(error)),
+    }
 }

@@ -8,8 +8,7 @@ ghost use Rattle.clear_reading.specs.Reader.{TellsDocument, TellsOnlyWhere};
 use crate::telling::{DocumentHead, tell_rows};
 use clear_book::documents::Document;
 use clear_ledger::reminders::{Reminders, read_reminders};
-use clear_records::faults::RowFault;
-use clear_schema::fault::Fault;
+use clear_schema::fault::{Fault, fault_of};
 use clear_texts::reminders::remind_text;
 use clear_texts::rows::RowSource;
 use clear_values::rows::{ReminderRow, RunRow};
@@ -31,8 +30,10 @@ pub fn tell_reminders<S: Alter>(
     ensures only { TellsOnlyWhere S.Store conn.old conn.new
         (λ t. AllByRecursion IsReminderRow (reminded run.now.run t)) result }
 {
-    let mut rows = read_reminders(conn, run.run)?;
-    tell_rows(alloc, run, &mut rows)
+    match read_reminders(conn, run.run) {
+        Ok(mut rows) => tell_rows(alloc, run, &mut rows),
+        Err(error) => Err(fault_of(error)),
+    }
 }
 
 // The reminders of the run are told, whatever they are.
@@ -50,7 +51,7 @@ impl DocumentHead for RunRow {
         alloc: Global,
         rows: &mut R,
         text: &mut String,
-    ) -> Result<(), RowFault> {
+    ) -> Result<(), Fault> {
         remind_text(alloc, self, rows, text)
     }
 }

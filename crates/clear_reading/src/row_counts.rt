@@ -10,7 +10,7 @@ use clear_firms::employers::{Employers, read_employers};
 use clear_firms::reports::{Reports, read_reports};
 use clear_ledger::bank::{Bank, read_lines};
 use clear_payouts::claims::{Claims, read_claims};
-use clear_schema::fault::Fault;
+use clear_schema::fault::{Fault, fault_of};
 use clear_values::rows::{BankRow, ClaimRow};
 use sqlite::{Alter, Connection};
 
@@ -66,8 +66,10 @@ fn count_firms<S: Alter>(conn: &mut Connection<S>) -> Result<u64, Fault>
     ensures tells { TellsTables S.Store conn.old conn.new (λ t. length t.employers)
         (λ t. Unit {0}) result }
 {
-    let mut rows = read_employers(conn)?;
-    count_rows::<AllRows<Employers>, S>(&mut rows)
+    match read_employers(conn) {
+        Ok(mut rows) => count_rows::<AllRows<Employers>, S>(&mut rows),
+        Err(error) => Err(fault_of(error)),
+    }
 }
 
 fn count_reports<S: Alter>(conn: &mut Connection<S>) -> Result<u64, Fault>
@@ -76,8 +78,10 @@ fn count_reports<S: Alter>(conn: &mut Connection<S>) -> Result<u64, Fault>
     ensures tells { TellsTables S.Store conn.old conn.new (λ t. length t.reports)
         (λ t. Unit {0}) result }
 {
-    let mut rows = read_reports(conn)?;
-    count_rows::<AllRows<Reports>, S>(&mut rows)
+    match read_reports(conn) {
+        Ok(mut rows) => count_rows::<AllRows<Reports>, S>(&mut rows),
+        Err(error) => Err(fault_of(error)),
+    }
 }
 
 // Lines in suspense that come to 2^64 cents or more are refused with `Fault::Store(StoreCause::Row)`.
@@ -87,8 +91,10 @@ fn count_lines<S: Alter>(conn: &mut Connection<S>) -> Result<LineCount, Fault>
     ensures tells { TellsTables S.Store conn.old conn.new (λ t. lines_counted t.bank)
         AreFewSuspended result }
 {
-    let mut rows = read_lines(conn)?;
-    count_rows::<AllLines, S>(&mut rows)
+    match read_lines(conn) {
+        Ok(mut rows) => count_rows::<AllLines, S>(&mut rows),
+        Err(error) => Err(fault_of(error)),
+    }
 }
 
 fn count_claims<S: Alter>(conn: &mut Connection<S>) -> Result<ClaimCount, Fault>
@@ -97,8 +103,10 @@ fn count_claims<S: Alter>(conn: &mut Connection<S>) -> Result<ClaimCount, Fault>
     ensures tells { TellsTables S.Store conn.old conn.new (λ t. claims_counted t.claims)
         (λ t. Unit {0}) result }
 {
-    let mut rows = read_claims(conn)?;
-    count_rows::<AllClaims, S>(&mut rows)
+    match read_claims(conn) {
+        Ok(mut rows) => count_rows::<AllClaims, S>(&mut rows),
+        Err(error) => Err(fault_of(error)),
+    }
 }
 
 // How many bank lines there are, how many of them are in suspense, and what these come to.

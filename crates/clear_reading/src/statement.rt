@@ -7,9 +7,8 @@ ghost use Rattle.clear_texts.specs.Paid.{statement_paid};
 use crate::telling::{DocumentHead, tell_rows};
 use clear_book::documents::Document;
 use clear_ledger::pieces::{Pieces, read_pieces};
-use clear_records::faults::RowFault;
 use clear_records::statement::StatementHead;
-use clear_schema::fault::Fault;
+use clear_schema::fault::{Fault, fault_of};
 use clear_texts::paid::statement_text;
 use clear_texts::rows::RowSource;
 use clear_values::rows::PieceRow;
@@ -31,8 +30,10 @@ pub fn tell_statement<S: Alter>(
         (λ t. statement_paid head.now (pieces_for head.now t)) (ArePiecesFor head.now) result }
     ensures only { TellsOnlyWhere S.Store conn.old conn.new (ArePiecesFor head.now) result }
 {
-    let mut rows = read_pieces(conn, head.firm.employer)?;
-    tell_rows(alloc, head, &mut rows)
+    match read_pieces(conn, head.firm.employer) {
+        Ok(mut rows) => tell_rows(alloc, head, &mut rows),
+        Err(error) => Err(fault_of(error)),
+    }
 }
 
 // Each piece must stand under one of the charges.
@@ -50,7 +51,7 @@ impl DocumentHead for StatementHead {
         _alloc: Global,
         rows: &mut R,
         text: &mut String,
-    ) -> Result<(), RowFault> {
+    ) -> Result<(), Fault> {
         statement_text(self, rows, text)
     }
 }

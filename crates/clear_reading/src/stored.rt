@@ -1,11 +1,9 @@
 //! The rows of a table that a query shows, one at a time.
 ghost use Rattle.std.specs.List.{AllByRecursion};
 ghost use Rattle.std.specs.Prelude.{◌≡◌, slice_get};
-ghost use Rattle.clear_reading.specs.Faults.{fault_told};
 ghost use Rattle.clear_reading.specs.Reader.{Tells};
 
 use clear_columns::rows::{StoredTable, next_row};
-use clear_records::faults::RowFault;
 use clear_schema::fault::Fault;
 use clear_texts::rows::RowSource;
 use sqlite::{Alter, Rows};
@@ -27,11 +25,8 @@ impl<S: Alter, T: StoredTable> RowSource for StoredRows<'_, '_, S, T> {
 
     ghost next_refuses = { Refuses S.Store T.shown T.is_in_range };
 
-    fn next(&mut self) -> Result<Option<T::Row>, RowFault> {
-        match next_row::<T, S>(self.rows) {
-            Ok(found) => Ok(found),
-            Err(fault) => Err(row_fault(fault)),
-        }
+    fn next(&mut self) -> Result<Option<T::Row>, Fault> {
+        next_row::<T, S>(self.rows)
     }
 }
 
@@ -44,24 +39,4 @@ pub(crate) fn first_row<T: StoredTable, S: Alter>(
         (λ rest. slice_get rest 0) (AllByRecursion T.is_in_range) result }
 {
     next_row::<T, S>(rows)
-}
-
-// A fault of the store, as one of a row.
-fn row_fault(fault: Fault) -> RowFault
-    ensures { fault_told result ≡ fault }
-{
-    match fault {
-        Fault::Memory => RowFault::Memory,
-        Fault::Store(cause) => RowFault::Store(cause),
-    }
-}
-
-/// The fault of the store that is told as a fault of a row.
-pub fn fault_told(fault: RowFault) -> Fault
-    ensures { result ≡ fault_told fault }
-{
-    match fault {
-        RowFault::Memory => Fault::Memory,
-        RowFault::Store(cause) => Fault::Store(cause),
-    }
 }

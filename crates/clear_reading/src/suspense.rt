@@ -9,8 +9,7 @@ use crate::telling::{DocumentHead, tell_rows};
 use clear_book::documents::Document;
 use clear_ledger::bank::{Bank, read_suspense};
 use clear_money::days::Day;
-use clear_records::faults::RowFault;
-use clear_schema::fault::Fault;
+use clear_schema::fault::{Fault, fault_of};
 use clear_texts::rows::RowSource;
 use clear_texts::suspense::suspense_text;
 use clear_values::rows::BankRow;
@@ -33,8 +32,10 @@ pub fn tell_suspense<S: Alter>(
     ensures only { TellsOnlyWhere S.Store conn.old conn.new
         (λ t. AreAddable IsBankRow (λ row. row.line.cents) (suspended t)) result }
 {
-    let mut rows = read_suspense(conn)?;
-    tell_rows(alloc, &day, &mut rows)
+    match read_suspense(conn) {
+        Ok(mut rows) => tell_rows(alloc, &day, &mut rows),
+        Err(error) => Err(fault_of(error)),
+    }
 }
 
 // The lines in suspense on the day are told, and their amounts are added up.
@@ -53,7 +54,7 @@ impl DocumentHead for Day {
         alloc: Global,
         rows: &mut R,
         text: &mut String,
-    ) -> Result<(), RowFault> {
+    ) -> Result<(), Fault> {
         suspense_text(alloc, *self, rows, text)
     }
 }

@@ -2,10 +2,9 @@
 ghost use Rattle.std.specs.Prelude.{◌≡◌};
 ghost use Rattle.clear_reading.specs.Reader.{AreRightIn, Tells, TellsOnlyOver};
 
-use crate::stored::{StoredRows, fault_told};
+use crate::stored::StoredRows;
 use clear_book::documents::Document;
 use clear_columns::rows::StoredTable;
-use clear_records::faults::RowFault;
 use clear_schema::fault::Fault;
 use clear_texts::rows::RowSource;
 use sqlite::{Alter, Rows};
@@ -34,7 +33,7 @@ pub(crate) trait DocumentHead {
         alloc: Global,
         rows: &mut R,
         text: &mut String,
-    ) -> Result<(), RowFault>
+    ) -> Result<(), Fault>
         ensures written { IfOk result (λ _. (given : List Self.Table.Row)
             × YieldsThen R.next_gives rows.old given None rows.new
             × are_right self.now given
@@ -81,8 +80,6 @@ fn tell_source<D: DocumentHead, S: Alter>(
         (AreRightIn D.Table.is_in_range (D.are_right head.now)) result }
 {
     let mut text = String::new(alloc);
-    match head.append(alloc, source, &mut text) {
-        Ok(()) => Ok(Document::new(text)),
-        Err(fault) => Err(fault_told(fault)),
-    }
+    head.append(alloc, source, &mut text)?;
+    Ok(Document::new(text))
 }

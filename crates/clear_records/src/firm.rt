@@ -3,11 +3,11 @@ ghost use Rattle.std.specs.Prelude.{◌≡◌, ◌++◌, ◌∷◌, [], IfErr, I
 ghost use Rattle.clear_kept.specs.Owing.{arrears_in};
 ghost use Rattle.clear_book.specs.Own.Statement.{whole_payment};
 
-use crate::faults::RowFault;
 use crate::statement::StatementRecords;
 use clear_book::documents::{FirmAccount, Payment};
 use clear_book::rows::CreditRow;
 use clear_money::days::Day;
+use clear_values::causes::Fault;
 use std::alloc::{AllocError, Global};
 
 /// What is told of a firm on a day, where this interest, in cents, is in arrears.
@@ -40,10 +40,10 @@ pub(crate) fn firm_account(
 }
 
 /// Whole credits.
-pub(crate) fn whole_payments(alloc: Global, credits: &[CreditRow]) -> Result<Vec<Payment>, RowFault>
+pub(crate) fn whole_payments(alloc: Global, credits: &[CreditRow]) -> Result<Vec<Payment>, Fault>
     ensures payments { IfOk result (λ payments. payments.items
         ≡ map whole_payment credits.now) }
-    ensures fault { IfErr result (λ fault. fault ≡ RowFault.Memory) }
+    ensures fault { IfErr result (λ fault. fault ≡ Fault.Memory) }
 {
     let mut payments = Vec::new(alloc);
     for credit in credits {
@@ -53,10 +53,10 @@ pub(crate) fn whole_payments(alloc: Global, credits: &[CreditRow]) -> Result<Vec
 }
 
 // Adds a whole credit.
-fn add_payment(payments: &mut Vec<Payment>, row: &CreditRow) -> Result<(), RowFault>
+fn add_payment(payments: &mut Vec<Payment>, row: &CreditRow) -> Result<(), Fault>
     ensures payment { OnOk result (payments.new.items
         ≡ payments.old.items ++ whole_payment row.now ∷ []) }
-    ensures fault { IfErr result (λ fault. fault ≡ RowFault.Memory) }
+    ensures fault { IfErr result (λ fault. fault ≡ Fault.Memory) }
 {
     let payment = whole_payment(row)?;
     payments.push(payment)?;

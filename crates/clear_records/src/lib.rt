@@ -16,7 +16,6 @@
 pub mod arrears;
 pub mod balance;
 mod charges;
-pub mod faults;
 mod firm;
 pub mod missing;
 pub mod statement;

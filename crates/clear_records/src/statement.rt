@@ -6,16 +6,15 @@ ghost use Rattle.clear_records.specs.Records.{AreStatementRecords, IsFor, IsHead
 
 use crate::arrears::{add_credits, interest_arrears};
 use crate::charges::charge_states;
-use crate::faults::RowFault;
 use crate::firm::{firm_account, whole_payments};
 use crate::missing::missing_months;
 use clear_book::documents::{ChargeState, FirmAccount, Payment};
 use clear_book::rows::{CreditRow, EmployerRow, ReportRow};
-use clear_book::rules::StoreCause;
 use clear_kept::owing::WeighedCharges;
 use clear_money::days::Day;
 use clear_money::months::Month;
 use clear_money::rates::RateTable;
+use clear_values::causes::{Fault, StoreCause};
 use std::alloc::Global;
 
 /// The records of a firm's statement, but for the pieces that pay its charges.
@@ -54,17 +53,17 @@ pub fn statement_head(
     alloc: Global,
     records: &StatementRecords,
     day: Day,
-) -> Result<StatementHead, RowFault>
+) -> Result<StatementHead, Fault>
     ensures head { (b : Book) (e : ℕ) → AreStatementRecords b e day records.now
         → IfOk result (IsHead b e day) }
     ensures fault { (b : Book) (e : ℕ) → AreStatementRecords b e day records.now
-        → IfErr result (λ fault. fault ≡ RowFault.Memory) }
+        → IfErr result (λ fault. fault ≡ Fault.Memory) }
     // Whatever the records are.
     ensures firm { IfOk result (IsFor records.now.member.employer day) }
 {
     let credits = records.interest_credits.as_slice();
     let Some(paid) = add_credits(credits) else {
-        return Err(RowFault::Store(StoreCause::Row));
+        return Err(Fault::Store(StoreCause::Row));
     };
     let interest = interest_arrears(&records.rates, &records.charges, paid, day);
     let rows = records.charges.rows();

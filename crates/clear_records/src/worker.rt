@@ -8,13 +8,12 @@ ghost use Rattle.clear_book.specs.Workers.{is_withdrawn};
 ghost use Rattle.clear_records.specs.Earned.{account_told, claimed_total, earned_total, earned_told};
 
 use crate::balance::{claimed_cents, earned_cents, entitlement};
-use crate::faults::RowFault;
 use clear_book::documents::EarnedLine;
 use clear_book::rows::{ClaimRow, WageRow};
-use clear_book::rules::StoreCause;
 use clear_money::days::Day;
 use clear_money::numbers::WorkerNo;
 use clear_money::rates::RateTable;
+use clear_values::causes::{Fault, StoreCause};
 use std::alloc::Global;
 use std::marker::Model;
 
@@ -64,17 +63,17 @@ pub fn worker_account(
     worker: WorkerNo,
     day: Day,
     records: &WorkerRecords,
-) -> Result<WorkerAccount, RowFault>
+) -> Result<WorkerAccount, Fault>
     ensures account { IfOk result (λ account. account ≡ account_told worker day records.now) }
     ensures fault { AllByRecursion IsWageRow records.now.wages.items
         → earned_total records.now < 2 ^ 64 → claimed_total records.now < 2 ^ 64
-        → IfErr result (λ fault. fault ≡ RowFault.Memory) }
+        → IfErr result (λ fault. fault ≡ Fault.Memory) }
 {
     let Some(earned) = earned_cents(&records.rates, records.wages.as_slice()) else {
-        return Err(RowFault::Store(StoreCause::Row));
+        return Err(Fault::Store(StoreCause::Row));
     };
     let Some(claimed) = claimed_cents(records.claims.as_slice()) else {
-        return Err(RowFault::Store(StoreCause::Row));
+        return Err(Fault::Store(StoreCause::Row));
     };
     let lines = earned_lines(alloc, &records.rates, records.wages.as_slice())?;
     let claims = standing_claims(alloc, records.claims.as_slice())?;
@@ -92,16 +91,16 @@ fn earned_lines(
     alloc: Global,
     rates: &RateTable,
     rows: &[WageRow],
-) -> Result<Vec<EarnedLine>, RowFault>
+) -> Result<Vec<EarnedLine>, Fault>
     ensures lines { IfOk result (λ lines. lines.items ≡ map (earned_told rates.now) rows.now) }
     ensures fault { AllByRecursion IsWageRow rows.now
-        → IfErr result (λ fault. fault ≡ RowFault.Memory) }
+        → IfErr result (λ fault. fault ≡ Fault.Memory) }
 {
     let mut lines = Vec::new(alloc);
     for row in rows {
         let line = match earned_line(rates, row) {
             Some(line) => line,
-            None => return Err(RowFault::Store(StoreCause::Row)),
+            None => return Err(Fault::Store(StoreCause::Row)),
         };
         lines.push(line)?;
     }
@@ -125,10 +124,10 @@ fn earned_line(rates: &RateTable, row: &WageRow) -> Option<EarnedLine>
 }
 
 // The claims that aren't withdrawn.
-fn standing_claims(alloc: Global, rows: &[ClaimRow]) -> Result<Vec<ClaimRow>, RowFault>
+fn standing_claims(alloc: Global, rows: &[ClaimRow]) -> Result<Vec<ClaimRow>, Fault>
     ensures claims { IfOk result (λ claims. claims.items
         ≡ filter (λ claim. not (is_withdrawn claim.state)) rows.now) }
-    ensures fault { IfErr result (λ fault. fault ≡ RowFault.Memory) }
+    ensures fault { IfErr result (λ fault. fault ≡ Fault.Memory) }
 {
     let mut claims = Vec::new(alloc);
     for row in rows {

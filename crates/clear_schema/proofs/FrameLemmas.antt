@@ -14,8 +14,8 @@ use Rattle.clear_values.specs.Tables.{Tables}
 use Rattle.clear_values.specs.declared.causes.StoreCause.TheVariants.{Constraint, Row as OutOfRange}
 use Rattle.clear_schema.specs.Held.{HasTables}
 use Rattle.clear_schema.specs.Runs.{IsDone, IsBroken, IsBrokenQuery}
-use Rattle.clear_schema.specs.declared.fault.Fault.{Fault}
-use Rattle.clear_schema.specs.declared.fault.Fault.TheVariants.{Store}
+use Rattle.clear_values.specs.declared.causes.Fault.{Fault}
+use Rattle.clear_values.specs.declared.causes.Fault.TheVariants.{Store}
 use Rattle.clear_schema.specs.Frame.{Answers, Finds, FindsFirst, IsOut, Lists, ListsAll, Looks, Runs, Writes}
 
 module _ {S : Type 0} (g : Ghosts S) (old new : Held S) where

@@ -4,8 +4,8 @@ use Rattle.std.specs.Prelude.{Option, Some}
 use Rattle.std.specs.Iterator.{Yields}
 use Rattle.std.specs.List.{flat_map}
 use Rattle.std.proofs.lemmas.Grind.{flat_map-append}
-use Rattle.clear_records.specs.declared.faults.RowFault.{RowFault}
-use Rattle.clear_records.specs.declared.faults.RowFault.TheVariants.{Memory}
+use Rattle.clear_values.specs.declared.causes.Fault.{Fault}
+use Rattle.clear_values.specs.declared.causes.Fault.TheVariants.{Memory}
 use Rattle.clear_texts.specs.Rows.{IsCutOff}
 use Rattle.clear_texts.proofs.RowLemmas.{Yields-append}
 
@@ -33,8 +33,8 @@ module _ {S Row : Type 0} (line : Row → List ℕ) (gives : S → Option Row �
         all_lines : flat_map line (so_far.given ++ row ∷ []) ≡ flat_map line so_far.given ++ line row
         all_lines = flat_map-append line so_far.given (row ∷ []) ∙ ap (λ lines. flat_map line so_far.given ++ lines) (append-nil (line row))
 
-    pub no_room : (refuses : S → RowFault → S → Type 0) (row : Row) → gives mid (Some row) new → IsCutOff gives refuses old Memory new
+    pub no_room : (refuses : S → Fault → S → Type 0) (row : Row) → gives mid (Some row) new → IsCutOff gives refuses old Memory new
     no_room refuses row step = inl (refl, (so_far.given ++ row ∷ [], inl (Yields-append gives old so_far.given mid row new so_far.run step)))
 
-    pub refused_one : (refuses : S → RowFault → S → Type 0) (fault : RowFault) → refuses mid fault new → IsCutOff gives refuses old fault new
+    pub refused_one : (refuses : S → Fault → S → Type 0) (fault : Fault) → refuses mid fault new → IsCutOff gives refuses old fault new
     refused_one refuses fault step = inr (so_far.given, mid, so_far.run, step)

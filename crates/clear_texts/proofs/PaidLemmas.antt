@@ -15,7 +15,7 @@ use Rattle.clear_texts.specs.PaidSteps.{GivesPaid, GivesRow, KeepsSource, Passes
 use Rattle.clear_texts.specs.Rows.{GivesWrong, IsCutOffUnless, IsRefused, Reads, most_rows}
 use Rattle.clear_texts.specs.declared.paid.PaidRows.{PaidRows}
 use Rattle.clear_texts.specs.declared.rows.ChargeRow.{ChargeRow}
-use Rattle.clear_records.specs.declared.faults.RowFault.{RowFault}
+use Rattle.clear_values.specs.declared.causes.Fault.{Fault}
 use Rattle.clear_texts.proofs.RowLemmas.{Yields-append}
 
 -- the next piece, and more behind it; nothing comes behind the end
@@ -193,7 +193,7 @@ module _ {S : Type 0} (gives : S → Option PieceRow → S → Type 0) (start : 
       by (Some piece) came rows = (all.told ++ piece ∷ [], inl (came, λ more paid. long (all.told ++ piece ∷ more) (paid_rows now.charges (piece ∷ more)) (rows more) (subst (ArePaid states) (append_assoc all.told (piece ∷ []) more) paid)))
 
   -- why a document over the rows is refused: as one over the pieces, which must stand under the charges
-  pub cut_off : (refuses : S → RowFault → S → Type 0) (first new : Paying S) (fault : RowFault) → Ran first [] → IsRefused (GivesPaid gives) (RefusesPaid gives refuses) first fault new → IsCutOffUnless gives refuses (ArePaid states) start fault new.source
+  pub cut_off : (refuses : S → Fault → S → Type 0) (first new : Paying S) (fault : Fault) → Ran first [] → IsRefused (GivesPaid gives) (RefusesPaid gives refuses) first fault new → IsCutOffUnless gives refuses (ArePaid states) start fault new.source
   cut_off refuses first new fault so_far (inl (is, (given, inl run))) =
       let all = ran first new [] given so_far run in
       inl (inl (is, read all.told new.next new.source all.came))
@@ -242,13 +242,13 @@ module _ {R : Type 0} (gives : R → Option PieceRow → R → Type 0) where
   pub kept_to_end : (old new : PaidRows R) (given : List ChargeRow) → YieldsThen (GivesRow gives) old given None new → KeepsSource old new
   kept_to_end old new given (last, run, end) = end.0 ∙ kept old last given run
 
-  pub kept_refused : (refuses : R → RowFault → R → Type 0) (old new : PaidRows R) (fault : RowFault) → IsRefused (GivesRow gives) (RefusesRow gives refuses) old fault new → KeepsSource old new
+  pub kept_refused : (refuses : R → Fault → R → Type 0) (old new : PaidRows R) (fault : Fault) → IsRefused (GivesRow gives) (RefusesRow gives refuses) old fault new → KeepsSource old new
   kept_refused refuses old new fault (inl (is, (given, inl run))) = kept old new given run
   kept_refused refuses old new fault (inl (is, (given, inr run))) = kept_to_end old new given run
   kept_refused refuses old new fault (inr (inl (is, (given, run, many)))) = kept old new given run
   kept_refused refuses old new fault (inr (inr (given, last, run, why))) = why.0 ∙ kept old last given run
 
-  called : (refuses : R → RowFault → R → Type 0) (old new : PaidRows R) (fault : RowFault) → IsRefused (GivesRow gives) (RefusesRow gives refuses) old fault new → IsRefused (GivesPaid gives) (RefusesPaid gives refuses) (paying old) fault (paying new)
+  called : (refuses : R → Fault → R → Type 0) (old new : PaidRows R) (fault : Fault) → IsRefused (GivesRow gives) (RefusesRow gives refuses) old fault new → IsRefused (GivesPaid gives) (RefusesPaid gives refuses) (paying old) fault (paying new)
   called refuses old new fault (inl (is, (given, inl run))) = inl (is, (given, inl (calls old new given run)))
   called refuses old new fault (inl (is, (given, inr (last, run, end)))) = inl (is, (given, inr (paying last, calls old last given run, end.1)))
   called refuses old new fault (inr (inl (is, (given, run, many)))) = inr (inl (is, (given, calls old new given run, many)))
@@ -267,5 +267,5 @@ module _ {R : Type 0} (gives : R → Option PieceRow → R → Type 0) where
         let all = told_all gives start states (paying last) (paying new) given (ran gives start states (paying old) (paying last) [] given first (calls old last given run)) end.1 in
         (all.0, all.1, record { none_over = all.3; few = subst (λ (rows : List ChargeRow). length rows ≤ most_rows) all.2 few }, all.2)
 
-    pub rows_cut_off : (refuses : R → RowFault → R → Type 0) (fault : RowFault) → IsRefused (GivesRow gives) (RefusesRow gives refuses) old fault new → IsCutOffUnless gives refuses (ArePaid states) start fault new.pieces.now
+    pub rows_cut_off : (refuses : R → Fault → R → Type 0) (fault : Fault) → IsRefused (GivesRow gives) (RefusesRow gives refuses) old fault new → IsCutOffUnless gives refuses (ArePaid states) start fault new.pieces.now
     rows_cut_off refuses fault why = cut_off gives start states refuses (paying old) (paying new) fault first (called refuses old new fault why)

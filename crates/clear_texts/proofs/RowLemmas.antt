@@ -9,8 +9,8 @@ use Rattle.clear_texts.specs.Charges.{piece_line, MonthRows, with_row, by_month,
 use Rattle.clear_texts.specs.RowSteps.{row_lines, IsNotTheEnd}
 use Rattle.clear_texts.specs.Rows.{most_rows, IsRefused}
 use Rattle.clear_book.specs.declared.rules.StoreCause.TheVariants.{Row as row_cause}
-use Rattle.clear_records.specs.declared.faults.RowFault.{RowFault}
-use Rattle.clear_records.specs.declared.faults.RowFault.TheVariants.{Memory, Store}
+use Rattle.clear_values.specs.declared.causes.Fault.{Fault}
+use Rattle.clear_values.specs.declared.causes.Fault.TheVariants.{Memory, Store}
 use Rattle.clear_texts.specs.declared.rows.ChargeRow.{ChargeRow}
 
 -- the month of the last row, or this one without rows
@@ -117,13 +117,13 @@ module _ {S : Type 0} (gives : S → Option ChargeRow → S → Type 0) (old mid
       → (given : List ChargeRow) × YieldsThen gives old given None new × (length given ≤ most_rows) × (text ≡ start ++ charge_lines given)
   ends so_far end few = (so_far.given, (mid, so_far.run, end), rw so_far.few few, so_far.lines ∙ ap (λ lines. start ++ lines) (charge_lines_is so_far.given))
 
-  pub lacks_memory : (refuses : S → RowFault → S → Type 0) (row : ChargeRow) → HasGiven gives old mid count month start text → gives mid (Some row) new → IsRefused gives refuses old Memory new
+  pub lacks_memory : (refuses : S → Fault → S → Type 0) (row : ChargeRow) → HasGiven gives old mid count month start text → gives mid (Some row) new → IsRefused gives refuses old Memory new
   lacks_memory refuses row so_far step = inl (refl, (so_far.given ++ row ∷ [], inl (Yields-append gives old so_far.given mid row new so_far.run step)))
 
-  pub refused_one : (refuses : S → RowFault → S → Type 0) (fault : RowFault) → HasGiven gives old mid count month start text → refuses mid fault new → IsRefused gives refuses old fault new
+  pub refused_one : (refuses : S → Fault → S → Type 0) (fault : Fault) → HasGiven gives old mid count month start text → refuses mid fault new → IsRefused gives refuses old fault new
   refused_one refuses fault so_far step = inr (inr (so_far.given, mid, so_far.run, step))
 
-  pub is_not_the_end : (refuses : S → RowFault → S → Type 0) (fault : RowFault) → HasGiven gives old mid count month start text → count ≡ most_rows → IsNotTheEnd gives refuses mid fault new → IsRefused gives refuses old fault new
+  pub is_not_the_end : (refuses : S → Fault → S → Type 0) (fault : Fault) → HasGiven gives old mid count month start text → count ≡ most_rows → IsNotTheEnd gives refuses mid fault new → IsRefused gives refuses old fault new
   is_not_the_end refuses fault so_far full why = ⊎_elim
       (λ (further : (fault ≡ Store row_cause) × (row : ChargeRow) × gives mid (Some row) new). inr (inl (further.0, (so_far.given ++ further.1 ∷ [], Yields-append gives old so_far.given mid further.1 new so_far.run further.2, length-append so_far.given (further.1 ∷ []) ∙ ap (λ n. n + 1) (so_far.few ∙ full)))))
       (λ (step : refuses mid fault new). refused_one refuses fault so_far step)

@@ -4,7 +4,7 @@ use Rattle.std.specs.Prelude.{Option, None, sum_by}
 use Rattle.std.specs.Iterator.{Yields, YieldsThen}
 use Rattle.std.proofs.lemmas.List.Sums.{sum_by-cons, sum_by_push}
 use Rattle.clear_book.specs.declared.rows.BankRow.{BankRow}
-use Rattle.clear_records.specs.declared.faults.RowFault.{RowFault}
+use Rattle.clear_values.specs.declared.causes.Fault.{Fault}
 use Rattle.clear_texts.specs.declared.suspense.Summed.{Summed}
 use Rattle.clear_texts.specs.Rows.{IsCutOff, IsCutOffAdding}
 use Rattle.clear_texts.specs.Adding.{GivesAdding, RefusesAdding}
@@ -13,7 +13,7 @@ use Rattle.clear_texts.proofs.RowLemmas.{Yields-append}
 abbrev pub cents : BankRow → ℕ
 cents row = row.line.cents
 
-module _ {S : Type 0} (gives : S → Option BankRow → S → Type 0) (refuses : S → RowFault → S → Type 0) where
+module _ {S : Type 0} (gives : S → Option BankRow → S → Type 0) (refuses : S → Fault → S → Type 0) where
   -- the same source
   abbrev pub IsOf : Summed S → Summed S → Type 0
   IsOf old new = new.rows.ghost_name ≡ old.rows.ghost_name
@@ -21,7 +21,7 @@ module _ {S : Type 0} (gives : S → Option BankRow → S → Type 0) (refuses :
   abbrev pub Gives : Summed S → Option BankRow → Summed S → Type 0
   Gives old found new = IsOf old new × GivesAdding gives cents old.rows.now old.total found new.rows.now new.total
 
-  abbrev pub Refuses : Summed S → RowFault → Summed S → Type 0
+  abbrev pub Refuses : Summed S → Fault → Summed S → Type 0
   Refuses old fault new = IsOf old new × RefusesAdding gives cents refuses old.rows.now old.total fault new.rows.now
 
   -- the source gave these rows, whose sum is added
@@ -51,7 +51,7 @@ module _ {S : Type 0} (gives : S → Option BankRow → S → Type 0) (refuses :
         )
 
     -- no more rows were given
-    pub cut_off : (fault : RowFault) → IsCutOff Gives Refuses old fault new → IsOf old new × IsCutOffAdding gives refuses cents old.rows.now fault new.rows.now
+    pub cut_off : (fault : Fault) → IsCutOff Gives Refuses old fault new → IsOf old new × IsCutOffAdding gives refuses cents old.rows.now fault new.rows.now
     cut_off fault (inl (is, (given, inl run))) =
         let so_far = added old new given run in (so_far.same, inl (inl (is, (given, inl so_far.run))))
     cut_off fault (inl (is, (given, inr run))) =

@@ -9,8 +9,8 @@ use Rattle.clear_book.specs.declared.rules.StoreCause.TheVariants.{Row as row_ca
 use Rattle.clear_book.specs.Own.Statement.{payment_in}
 use Rattle.clear_texts.specs.declared.paid.PaidRows.{PaidRows}
 use Rattle.clear_texts.specs.declared.rows.ChargeRow.{ChargeRow}
-use Rattle.clear_records.specs.declared.faults.RowFault.{RowFault}
-use Rattle.clear_records.specs.declared.faults.RowFault.TheVariants.{Store}
+use Rattle.clear_values.specs.declared.causes.Fault.{Fault}
+use Rattle.clear_values.specs.declared.causes.Fault.TheVariants.{Store}
 
 -- there is a next piece, and it is of the month
 abbrev pub is_under : ℕ → Option PieceRow → Bool
@@ -57,7 +57,7 @@ module _ {S : Type 0} (gives : S → Option PieceRow → S → Type 0) where
 
   -- a call is refused: for what the source of pieces says once the next one is told, or since this
   -- one stands under no charge
-  abbrev pub RefusesPaid : (S → RowFault → S → Type 0) → Paying S → RowFault → Paying S → Type 0
+  abbrev pub RefusesPaid : (S → Fault → S → Type 0) → Paying S → Fault → Paying S → Type 0
   RefusesPaid refuses old fault new = ((piece : PieceRow) × (old.next ≡ Some piece))
       × (refuses old.source fault new.source
       ⊎ ((fault ≡ Store row_cause) × (old.charges ≡ []) × (new.source ≡ old.source)))
@@ -81,7 +81,7 @@ module _ {R : Type 0} where
     GivesRow old found new = KeepsSource old new × GivesPaid gives (paying old) found (paying new)
 
     -- a call of the reader is refused for this
-    abbrev pub RefusesRow : (R → RowFault → R → Type 0) → PaidRows R → RowFault → PaidRows R
+    abbrev pub RefusesRow : (R → Fault → R → Type 0) → PaidRows R → Fault → PaidRows R
         → Type 0
     RefusesRow refuses old fault new =
         KeepsSource old new × RefusesPaid gives refuses (paying old) fault (paying new)

@@ -5,8 +5,8 @@ use Rattle.clear_book.specs.declared.rules.StoreCause.TheVariants.{Row}
 use Rattle.clear_book.specs.Documents.Lines.{charge_line}
 use Rattle.clear_texts.specs.Charges.{piece_line}
 use Rattle.clear_texts.specs.declared.rows.ChargeRow.{ChargeRow}
-use Rattle.clear_records.specs.declared.faults.RowFault.{RowFault}
-use Rattle.clear_records.specs.declared.faults.RowFault.TheVariants.{Store}
+use Rattle.clear_values.specs.declared.causes.Fault.{Fault}
+use Rattle.clear_values.specs.declared.causes.Fault.TheVariants.{Store}
 
 -- the month is that of the row before
 abbrev pub is_month_of : Option ℕ → ℕ → Bool
@@ -23,6 +23,6 @@ row_lines before row =
 -- why a call does not tell the end: it gave a row, for which there is no room, or was refused for
 -- this
 abbrev pub IsNotTheEnd : {S : Type 0} → (S → Option ChargeRow → S → Type 0)
-    → (S → RowFault → S → Type 0) → S → RowFault → S → Type 0
+    → (S → Fault → S → Type 0) → S → Fault → S → Type 0
 IsNotTheEnd gives refuses old fault new =
     ((fault ≡ Store Row) × (row : ChargeRow) × gives old (Some row) new) ⊎ refuses old fault new

@@ -3,8 +3,8 @@ use Rattle.std.specs.Prelude.{◌≡◌, ◌⊎◌, ◌+◌, ◌++◌, ◌^◌, 
 use Rattle.std.specs.Prelude.{Option, None}
 use Rattle.std.specs.Iterator.{Yields, YieldsThen}
 use Rattle.clear_book.specs.declared.rules.StoreCause.TheVariants.{Row as row_cause}
-use Rattle.clear_records.specs.declared.faults.RowFault.{RowFault}
-use Rattle.clear_records.specs.declared.faults.RowFault.TheVariants.{Memory, Store}
+use Rattle.clear_values.specs.declared.causes.Fault.{Fault}
+use Rattle.clear_values.specs.declared.causes.Fault.TheVariants.{Memory, Store}
 
 -- the rows of an account: 100,000 credits, and twice 2,400 months
 abbrev pub most_rows : ℕ
@@ -32,31 +32,31 @@ module _ {S Row : Type 0} (gives : S → Option Row → S → Type 0) where
       × ((Yields gives old given new × ((more : List Row) → ¬ IsRight (given ++ more)))
       ⊎ (YieldsThen gives old given None new × ¬ IsRight given))
 
-  module _ (refuses : S → RowFault → S → Type 0) where
+  module _ (refuses : S → Fault → S → Type 0) where
     -- the calls gave rows, and the last one was refused for this
-    abbrev pub RefusesARow : S → RowFault → S → Type 0
+    abbrev pub RefusesARow : S → Fault → S → Type 0
     RefusesARow old fault new = (given : List Row) × (last : S)
         × Yields gives old given last × refuses last fault new
 
     -- why a document over rows without limit is refused: there was no memory, or the source refused
     -- one for this
-    abbrev pub IsCutOff : S → RowFault → S → Type 0
+    abbrev pub IsCutOff : S → Fault → S → Type 0
     IsCutOff old fault new = ((fault ≡ Memory) × Reads old new) ⊎ RefusesARow old fault new
 
     -- why a document over the rows of an account is refused: there was no memory, the source gave
     -- too many rows, or it refused one for this
-    abbrev pub IsRefused : S → RowFault → S → Type 0
+    abbrev pub IsRefused : S → Fault → S → Type 0
     IsRefused old fault new = ((fault ≡ Memory) × Reads old new)
         ⊎ (((fault ≡ Store row_cause) × GivesTooMany old new) ⊎ RefusesARow old fault new)
 
     -- why a document over rows without limit, whose amounts are added up, is refused: as one
     -- without limit, or the amounts came to too much
-    abbrev pub IsCutOffAdding : (Row → ℕ) → S → RowFault → S → Type 0
+    abbrev pub IsCutOffAdding : (Row → ℕ) → S → Fault → S → Type 0
     IsCutOffAdding amount old fault new = IsCutOff old fault new
         ⊎ ((fault ≡ Store row_cause) × GivesTooMuch amount old new)
 
     -- why a document over rows without limit, which must be right, is refused: as one without
     -- limit, or the rows aren't right
-    abbrev pub IsCutOffUnless : (List Row → Type 0) → S → RowFault → S → Type 0
+    abbrev pub IsCutOffUnless : (List Row → Type 0) → S → Fault → S → Type 0
     IsCutOffUnless IsRight old fault new = IsCutOff old fault new
         ⊎ ((fault ≡ Store row_cause) × GivesWrong IsRight old new)

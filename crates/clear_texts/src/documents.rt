@@ -10,8 +10,8 @@ use crate::worker::append_worker;
 use clear_book::documents::Document;
 use clear_money::days::Day;
 use clear_money::numbers::WorkerNo;
-use clear_records::faults::RowFault;
 use clear_records::worker::{WorkerRecords, worker_account};
+use clear_values::causes::Fault;
 use std::alloc::Global;
 
 /// What the records of a worker say of it on a day: what it has earned, by firm, then month, the
@@ -24,11 +24,11 @@ pub fn worker_document(
     worker: WorkerNo,
     day: Day,
     records: &WorkerRecords,
-) -> Result<Document, RowFault>
+) -> Result<Document, Fault>
     ensures text { (b : Book) → IsLawful b → AreWorkerRecords b worker records.now
         → IfOk result (λ document. document ≡ worker_text (worker_on b day worker)) }
     ensures fault { (b : Book) → IsLawful b → AreWorkerRecords b worker records.now
-        → IfErr result (λ fault. fault ≡ RowFault.Memory) }
+        → IfErr result (λ fault. fault ≡ Fault.Memory) }
 {
     let account = worker_account(alloc, worker, day, records)?;
     let mut text = String::new(alloc);

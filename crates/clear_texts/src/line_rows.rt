@@ -6,7 +6,7 @@ ghost use Rattle.std.specs.List.{flat_map};
 ghost use Rattle.clear_texts.specs.Rows.{IsCutOff};
 
 use crate::rows::RowSource;
-use clear_records::faults::RowFault;
+use clear_values::causes::Fault;
 use std::alloc::AllocError;
 
 /// A row that is told in a line.
@@ -27,7 +27,7 @@ pub(crate) trait LineRow {
 pub(crate) fn append_lines<T: LineRow + Drop, R: RowSource<Row = T>>(
     text: &mut String,
     rows: &mut R,
-) -> Result<u64, RowFault>
+) -> Result<u64, Fault>
     ensures written { IfOk result (λ count. (given : List T)
         × YieldsThen R.next_gives rows.old given None rows.new
         × (string_bytes text.new ≡ string_bytes text.old ++ flat_map T.line given)
@@ -42,5 +42,5 @@ pub(crate) fn append_lines<T: LineRow + Drop, R: RowSource<Row = T>>(
             Err(fault) => return Err(fault),
         }
     }
-    Err(RowFault::Memory)
+    Err(Fault::Memory)
 }

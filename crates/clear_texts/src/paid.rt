@@ -12,22 +12,21 @@ use crate::rows::{ChargeRow, RowSource};
 use crate::statement::append_statement;
 use clear_book::documents::{ChargeState, Payment};
 use clear_book::rows::PieceRow;
-use clear_book::rules::StoreCause;
 use clear_money::months::Month;
-use clear_records::faults::RowFault;
 use clear_records::statement::StatementHead;
+use clear_values::causes::{Fault, StoreCause};
 use std::mem;
 
 /// Appends the statement of a firm, whose charges are paid by the pieces that the source gives up to
 /// its end: each piece stands under the charge of its month. It reads one piece ahead. It is refused
-/// for want of memory, for what the source tells, and, with `RowFault::Store(StoreCause::Row)`, for a
+/// for want of memory, for what the source tells, and, with `Fault::Store(StoreCause::Row)`, for a
 /// piece that stands under none of the charges, and for more rows than an account has: so no piece is
 /// left out. A refusal may leave a part of the text.
 pub fn statement_text<R: RowSource<Row = PieceRow>>(
     head: &StatementHead,
     pieces: &mut R,
     text: &mut String,
-) -> Result<(), RowFault>
+) -> Result<(), Fault>
     ensures written { IfOk result (λ _. (given : List PieceRow)
         × YieldsThen R.next_gives pieces.old given None pieces.new
         × ArePiecesOf head.now given
@@ -45,7 +44,7 @@ fn append_ahead<R: RowSource<Row = PieceRow>>(
     pieces: &mut R,
     next: &mut Option<PieceRow>,
     text: &mut String,
-) -> Result<(), RowFault>
+) -> Result<(), Fault>
     ensures written { (start : R) → R.next_gives start next.old pieces.old
         → IfOk result (λ _. (given : List PieceRow)
         × YieldsThen R.next_gives start given None pieces.new
@@ -85,7 +84,7 @@ impl<R: RowSource<Row = PieceRow>> RowSource for PaidRows<'_, R> {
 
     ghost next_refuses = { RefusesRow R.next_gives R.next_refuses };
 
-    fn next(&mut self) -> Result<Option<ChargeRow>, RowFault> {
+    fn next(&mut self) -> Result<Option<ChargeRow>, Fault> {
         let state = match self.charges.get(self.place) {
             Some(state) => *state,
             None => return end_pieces(self.next),
@@ -107,13 +106,13 @@ impl<R: RowSource<Row = PieceRow>> RowSource for PaidRows<'_, R> {
 }
 
 // Nothing, where no piece is left that stands under no charge.
-fn end_pieces(next: &Option<PieceRow>) -> Result<Option<ChargeRow>, RowFault>
+fn end_pieces(next: &Option<PieceRow>) -> Result<Option<ChargeRow>, Fault>
     ensures ends { IfOk result (λ found. (found ≡ None) × (next.now ≡ None)) }
-    ensures refused { IfErr result (λ fault. (fault ≡ RowFault.Store StoreCause.Row)
+    ensures refused { IfErr result (λ fault. (fault ≡ Fault.Store StoreCause.Row)
         × ((piece : PieceRow) × (next.now ≡ Some piece))) }
 {
     match next {
-        Some(_piece) => Err(RowFault::Store(StoreCause::Row)),
+        Some(_piece) => Err(Fault::Store(StoreCause::Row)),
         None => Ok(None),
     }
 }
@@ -147,7 +146,7 @@ fn append_rows<R: RowSource<Row = PieceRow>>(
     head: &StatementHead,
     rows: &mut PaidRows<'_, R>,
     text: &mut String,
-) -> Result<(), RowFault>
+) -> Result<(), Fault>
     requires all { rows.old.place ≡ 0 }
     requires charges { rows.old.charges.now ≡ head.now.charges.items }
     ensures same_source { rows.new.pieces.ghost_name ≡ rows.old.pieces.ghost_name }

@@ -13,7 +13,7 @@ use crate::lines::{append_day, append_number};
 use crate::rows::RowSource;
 use crate::whole::append_whole;
 use clear_book::rows::{ClaimRow, ListRow};
-use clear_records::faults::RowFault;
+use clear_values::causes::Fault;
 use std::alloc::{AllocError, Global};
 
 /// Appends the document of a payout list, whose claims are those that the source gives up to its
@@ -23,7 +23,7 @@ pub fn payout_text<R: RowSource<Row = ClaimRow>>(
     list: &ListRow,
     rows: &mut R,
     text: &mut String,
-) -> Result<(), RowFault>
+) -> Result<(), Fault>
     ensures written { IfOk result (λ _. (given : List ClaimRow)
         × YieldsThen R.next_gives rows.old given None rows.new
         × (string_bytes text.new ≡ string_bytes text.old ++ payout_text list.now given)) }
@@ -43,7 +43,7 @@ fn append_payout<R: RowSource<Row = ClaimRow>>(
     text: &mut String,
     list: &ListRow,
     rows: &mut R,
-) -> Result<(), RowFault>
+) -> Result<(), Fault>
     ensures written { IfOk result (λ _. (given : List ClaimRow)
         × YieldsThen R.next_gives rows.old given None rows.new
         × (string_bytes text.new ≡ string_bytes text.old ++ payout_text list.now given)) }

@@ -13,7 +13,7 @@ use crate::lines::{append_day, append_month_or_dash, append_number};
 use crate::rows::RowSource;
 use crate::whole::append_whole;
 use clear_book::rows::{ReminderRow, RunRow};
-use clear_records::faults::RowFault;
+use clear_values::causes::Fault;
 use std::alloc::{AllocError, Global};
 
 /// Appends the document of a reminder run, whose reminders are those that the source gives up to
@@ -24,7 +24,7 @@ pub fn remind_text<R: RowSource<Row = ReminderRow>>(
     run: &RunRow,
     rows: &mut R,
     text: &mut String,
-) -> Result<(), RowFault>
+) -> Result<(), Fault>
     ensures written { IfOk result (λ _. (given : List ReminderRow)
         × YieldsThen R.next_gives rows.old given None rows.new
         × (string_bytes text.new ≡ string_bytes text.old ++ reminders_text run.now given)) }
@@ -44,7 +44,7 @@ fn append_run<R: RowSource<Row = ReminderRow>>(
     text: &mut String,
     run: &RunRow,
     rows: &mut R,
-) -> Result<(), RowFault>
+) -> Result<(), Fault>
     ensures written { IfOk result (λ _. (given : List ReminderRow)
         × YieldsThen R.next_gives rows.old given None rows.new
         × (string_bytes text.new ≡ string_bytes text.old ++ reminders_text run.now given)) }

@@ -2,7 +2,7 @@
 ghost use Rattle.std.specs.Prelude.{IfErr, IfOk};
 
 use clear_book::documents::{ChargeState, Payment};
-use clear_records::faults::RowFault;
+use clear_values::causes::Fault;
 
 /// The rows of an account: 100,000 credits, and twice 2,400 months.
 pub const MAX_ROWS: u32 = 104_800;
@@ -18,7 +18,7 @@ pub struct ChargeRow {
 /// A source of the rows of a document.
 pub trait RowSource {
     ghost use Rattle.std.specs.Prelude.{Option};
-    ghost use Rattle.clear_records.specs.declared.faults.RowFault.{RowFault};
+    ghost use Rattle.clear_values.specs.declared.causes.Fault.{Fault};
 
     /// What the document tells one after another.
     type Row: Drop;
@@ -27,10 +27,10 @@ pub trait RowSource {
     ghost next_gives: { Self → Option Self.Row → Self → Type 0 };
 
     /// A call at the first source is refused for this, and leaves the second.
-    ghost next_refuses: { Self → RowFault → Self → Type 0 };
+    ghost next_refuses: { Self → Fault → Self → Type 0 };
 
     /// The next row, and none past the last.
-    fn next(&mut self) -> Result<Option<Self::Row>, RowFault>
+    fn next(&mut self) -> Result<Option<Self::Row>, Fault>
         ensures gives { IfOk result (λ found. next_gives self.old found self.new) }
         ensures refuses { IfErr result (λ fault. next_refuses self.old fault self.new) };
 }

@@ -19,9 +19,8 @@ use crate::lines::{
 use crate::rows::{ChargeRow, MAX_ROWS, RowSource};
 use crate::whole::append_whole;
 use clear_book::documents::{FirmAccount, Payment};
-use clear_book::rules::StoreCause;
 use clear_money::months::Month;
-use clear_records::faults::RowFault;
+use clear_values::causes::{Fault, StoreCause};
 use std::alloc::{AllocError, Global};
 
 /// Appends the statement of a firm with these credits for interest and months without a report,
@@ -35,7 +34,7 @@ pub fn statement<R: RowSource<Row = ChargeRow>>(
     missing: &[Month],
     rows: &mut R,
     text: &mut String,
-) -> Result<(), RowFault>
+) -> Result<(), Fault>
     ensures written { IfOk result (λ _. (given : List ChargeRow)
         × YieldsThen R.next_gives rows.old given None rows.new
         × (length given ≤ most_rows)
@@ -59,7 +58,7 @@ pub(crate) fn append_statement<R: RowSource<Row = ChargeRow>>(
     interest_credits: &[Payment],
     missing: &[Month],
     rows: &mut R,
-) -> Result<(), RowFault>
+) -> Result<(), Fault>
     ensures written { IfOk result (λ _. (given : List ChargeRow)
         × YieldsThen R.next_gives rows.old given None rows.new
         × (length given ≤ most_rows)
@@ -96,7 +95,7 @@ fn append_firm(text: &mut String, firm: &FirmAccount) -> Result<(), AllocError>
 fn append_charges<R: RowSource<Row = ChargeRow>>(
     text: &mut String,
     rows: &mut R,
-) -> Result<(), RowFault>
+) -> Result<(), Fault>
     ensures written { IfOk result (λ _. (given : List ChargeRow)
         × YieldsThen R.next_gives rows.old given None rows.new
         × (length given ≤ most_rows)
@@ -119,13 +118,13 @@ fn append_charges<R: RowSource<Row = ChargeRow>>(
 }
 
 // The source gives no further row.
-fn end_rows<R: RowSource<Row = ChargeRow>>(rows: &mut R) -> Result<(), RowFault>
+fn end_rows<R: RowSource<Row = ChargeRow>>(rows: &mut R) -> Result<(), Fault>
     ensures ends { IfOk result (λ _. R.next_gives rows.old None rows.new) }
     ensures refused { IfErr result (λ fault.
         IsNotTheEnd R.next_gives R.next_refuses rows.old fault rows.new) }
 {
     match rows.next() {
-        Ok(Some(_)) => Err(RowFault::Store(StoreCause::Row)),
+        Ok(Some(_)) => Err(Fault::Store(StoreCause::Row)),
         Ok(None) => Ok(()),
         Err(fault) => Err(fault),
     }

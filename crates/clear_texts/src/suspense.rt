@@ -17,21 +17,20 @@ use crate::rows::RowSource;
 use crate::whole::append_whole;
 use clear_bank::lines::Purpose;
 use clear_book::rows::BankRow;
-use clear_book::rules::StoreCause;
 use clear_money::days::Day;
 use clear_money::numbers::EmployerNo;
-use clear_records::faults::RowFault;
+use clear_values::causes::{Fault, StoreCause};
 use std::alloc::{AllocError, Global};
 
 /// Appends the document of lines in suspense on a day, which are those that the source gives up to
 /// its end. A refusal leaves the text as it was: there was no memory, the source refused a line, or
-/// the lines came to 2^64 cents or more, which is `RowFault::Store(StoreCause::Row)`.
+/// the lines came to 2^64 cents or more, which is `Fault::Store(StoreCause::Row)`.
 pub fn suspense_text<R: RowSource<Row = BankRow>>(
     alloc: Global,
     day: Day,
     rows: &mut R,
     text: &mut String,
-) -> Result<(), RowFault>
+) -> Result<(), Fault>
     ensures written { IfOk result (λ _. (given : List BankRow)
         × YieldsThen R.next_gives rows.old given None rows.new
         × (sum_by (λ row. row.line.cents) given < 2 ^ 64)
@@ -52,7 +51,7 @@ fn append_suspense<R: RowSource<Row = BankRow>>(
     text: &mut String,
     day: Day,
     rows: &mut R,
-) -> Result<(), RowFault>
+) -> Result<(), Fault>
     ensures written { IfOk result (λ _. (given : List BankRow)
         × YieldsThen R.next_gives rows.old given None rows.new
         × (sum_by (λ row. row.line.cents) given < 2 ^ 64)
@@ -85,10 +84,7 @@ struct Sums {
 }
 
 // Appends the lines of all rows, and tells what they come to.
-fn append_rows<R: RowSource<Row = BankRow>>(
-    text: &mut String,
-    rows: &mut R,
-) -> Result<Sums, RowFault>
+fn append_rows<R: RowSource<Row = BankRow>>(text: &mut String, rows: &mut R) -> Result<Sums, Fault>
     ensures written { IfOk result (λ sums. (given : List BankRow)
         × YieldsThen R.next_gives rows.old given None rows.new
         × (string_bytes text.new ≡ string_bytes text.old ++ flat_map suspense_line given)
@@ -104,7 +100,7 @@ fn append_rows<R: RowSource<Row = BankRow>>(
 fn sum_rows<R: RowSource<Row = BankRow>>(
     text: &mut String,
     summed: &mut Summed<'_, R>,
-) -> Result<Sums, RowFault>
+) -> Result<Sums, Fault>
     requires { summed.old.total ≡ 0 }
     ensures same_reference { summed.new.rows.ghost_name ≡ summed.old.rows.ghost_name }
     ensures written { IfOk result (λ sums. (given : List BankRow)
@@ -154,14 +150,14 @@ impl<R: RowSource<Row = BankRow>> RowSource for Summed<'_, R> {
         × RefusesAdding R.next_gives (λ row. row.line.cents) R.next_refuses old.rows.now old.total
         fault new.rows.now };
 
-    fn next(&mut self) -> Result<Option<BankRow>, RowFault> {
+    fn next(&mut self) -> Result<Option<BankRow>, Fault> {
         match self.rows.next() {
             Ok(Some(row)) => match self.total.checked_add(line_cents(&row)) {
                 Some(total) => {
                     self.total = total;
                     Ok(Some(row))
                 }
-                None => Err(RowFault::Store(StoreCause::Row)),
+                None => Err(Fault::Store(StoreCause::Row)),
             },
             Ok(None) => Ok(None),
             Err(fault) => Err(fault),

@@ -6,7 +6,7 @@ use Rattle.clear_ledger.specs.Shown.{number_shown}
 use Rattle.clear_reading.proofs.FirstLemmas.{greatest_in_range, tells_one}
 use Rattle.clear_reading.proofs.look.find_greatest.Goals as goal
 
-pub returns-clause-tells : goal.returns-clause-tells
-returns-clause-tells g c =
-    tells_one g.S.Store _ number_shown IsRequestNo c.args.conn.now c.in_ok-rows.rows.conn.now c.first_row.new.rows.conn.now _ (λ t. greatest_number Clerk t.requests) c.first_row.result (search rules) c.in_ok-rows.ensures.begun c.first_row.ensures.tells
+pub returns-in-Ok-clause-tells : goal.returns-in-Ok-clause-tells
+returns-in-Ok-clause-tells g c =
+    tells_one g.S.Store _ number_shown IsRequestNo c.args.conn.now c.in-Ok.rows.conn.now c.first_row.new.rows.conn.now _ (λ t. greatest_number Clerk t.requests) c.first_row.result (search rules) c.in-Ok.ensures.begun c.first_row.ensures.tells
     (greatest_in_range Clerk)

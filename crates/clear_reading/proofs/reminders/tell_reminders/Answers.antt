@@ -5,12 +5,12 @@ use Rattle.clear_schema.specs.Values.{reminder_shown}
 use Rattle.clear_reading.proofs.TellingLemmas.{tells_only, tells_tables}
 use Rattle.clear_reading.proofs.reminders.tell_reminders.Goals as goal
 
-pub returns-clause-tells : goal.returns-clause-tells
-returns-clause-tells g c =
-    tells_tables g.S.Store _ reminder_shown c.args.conn.now c.in_ok-rows.rows.conn.now c.tell_rows.new.rows.conn.now _ _ _ _ _ c.tell_rows.result (search rules) c.in_ok-rows.ensures.begun c.tell_rows.ensures.tells
+pub returns-in-Ok-clause-tells : goal.returns-in-Ok-clause-tells
+returns-in-Ok-clause-tells g c =
+    tells_tables g.S.Store _ reminder_shown c.args.conn.now c.in-Ok.rows.conn.now c.tell_rows.new.rows.conn.now _ _ _ _ _ c.tell_rows.result (search rules) c.in-Ok.ensures.begun c.tell_rows.ensures.tells
     (λ t ranges right. (all-filter IsReminderRow _ t.reminders ranges.reminders, tt))
 
-pub returns-clause-only : goal.returns-clause-only
-returns-clause-only g c =
-    tells_only g.S.Store reminder_shown c.args.conn.now c.in_ok-rows.rows.conn.now c.tell_rows.new.rows.conn.now _ _ _ _ c.tell_rows.result (search rules) c.in_ok-rows.ensures.begun c.tell_rows.ensures.tells.survives c.tell_rows.ensures.only
+pub returns-in-Ok-clause-only : goal.returns-in-Ok-clause-only
+returns-in-Ok-clause-only g c =
+    tells_only g.S.Store reminder_shown c.args.conn.now c.in-Ok.rows.conn.now c.tell_rows.new.rows.conn.now _ _ _ _ c.tell_rows.result (search rules) c.in-Ok.ensures.begun c.tell_rows.ensures.tells.survives c.tell_rows.ensures.only
     (λ t right. right.0)
