@@ -9,8 +9,8 @@
 //! `worker_account` tells what the records of a worker say: what it has earned, by firm, then month,
 //! the claims for it that aren't withdrawn, and its balance. It takes one step for each line and each
 //! claim, and for each line a search among the rates. `earned_cents` and `claimed_cents` say the same
-//! of the balance for a claim. Where the records are those of a lawful book, all this is what the book
-//! says, and only want of memory refuses it.
+//! of the balance for a claim. Where the records are those of a firm or of a worker in a lawful book,
+//! `statement_head` and `worker_account` tell what the book says, and only want of memory refuses them.
 #![tactic(auto)]
 
 pub mod arrears;

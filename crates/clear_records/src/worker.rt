@@ -2,10 +2,14 @@
 ghost use Rattle.std.specs.Prelude.{◌≡◌, ◌≤◌, ◌<◌, ◌^◌, IfErr, IfOk, IfSome, IsSome, filter};
 ghost use Rattle.std.specs.Prelude.{map, not};
 ghost use Rattle.std.specs.List.{AllByRecursion};
+ghost use Rattle.clear_book.specs.Book.{Book};
 ghost use Rattle.clear_book.specs.Limits.{most_gross};
+ghost use Rattle.clear_book.specs.Machine.{IsLawful};
+ghost use Rattle.clear_book.specs.Own.Worker.{worker_on};
 ghost use Rattle.clear_book.specs.RowRanges.{IsWageRow};
 ghost use Rattle.clear_book.specs.Workers.{is_withdrawn};
 ghost use Rattle.clear_records.specs.Earned.{account_told, claimed_total, earned_total, earned_told};
+ghost use Rattle.clear_records.specs.Records.{AreWorkerRecords};
 
 use crate::balance::{claimed_cents, earned_cents, entitlement};
 use clear_book::documents::EarnedLine;
@@ -64,6 +68,11 @@ pub fn worker_account(
     day: Day,
     records: &WorkerRecords,
 ) -> Result<WorkerAccount, Fault>
+    ensures told { (b : Book) → IsLawful b → AreWorkerRecords b worker records.now
+        → IfOk result (λ account. account ≡ worker_on b day worker) }
+    ensures memory { (b : Book) → IsLawful b → AreWorkerRecords b worker records.now
+        → IfErr result (λ fault. fault ≡ Fault.Memory) }
+    // Whatever the records are.
     ensures account { IfOk result (λ account. account ≡ account_told worker day records.now) }
     ensures fault { AllByRecursion IsWageRow records.now.wages.items
         → earned_total records.now < 2 ^ 64 → claimed_total records.now < 2 ^ 64
