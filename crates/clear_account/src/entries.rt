@@ -1,5 +1,6 @@
 //! What an account holds, and what is paid of it.
 use clear_money::days::Day;
+use clear_money::limits::{self, MAX_BASE};
 use clear_money::months::Month;
 use clear_money::numbers::Amount;
 use std::alloc::AllocError;
@@ -16,11 +17,11 @@ pub struct Charge {
 
 impl Charge {
     /// The greatest contribution for a month.
-    pub const MAX_CENTS: u64 = 5_000_000_000;
+    pub const MAX_CENTS: u64 = MAX_BASE;
 
     /// The greatest weight of a contribution, in cents: the greatest one, once for each of 2,412 begun
     /// months.
-    pub const MAX_WEIGHT: u64 = 12_060_000_000_000;
+    pub const MAX_WEIGHT: u64 = limits::MAX_WEIGHT;
 }
 
 /// A payment of a firm, or what was set off for it.

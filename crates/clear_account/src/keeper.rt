@@ -14,11 +14,12 @@ ghost use Rattle.clear_account.specs.Interest.{weight_of};
 
 use crate::entries::{AccountFault, Charge, Credit, Piece};
 use clear_money::days::Day;
+use clear_money::limits;
 use clear_money::months::Month;
 use std::alloc::Global;
 
 /// The most payments that an account has.
-pub const MAX_CREDITS: usize = 100_000;
+pub const MAX_CREDITS: usize = limits::MAX_CREDITS as usize;
 
 /// Keeps an account, which a contract sees as its charges in month order and its credits, the
 /// payments, in order of day and serial.

@@ -1,6 +1,5 @@
 //! The bytes of an answer.
 ghost use Rattle.std.specs.Prelude.{◌≡◌, ◌++◌, codes, false, true, IfOk, is_ok, if◌then◌else◌, string_bytes};
-ghost use Rattle.std.specs.Fmt.{decimal};
 ghost use Rattle.clear_book.specs.declared.outcomes.Answer.TheVariants.{Owed};
 ghost use Rattle.clear_book.specs.declared.outcomes.Reply.TheVariants.{Listed, Released, Reminded};
 ghost use Rattle.clear_book.specs.declared.rules.Rule.TheVariants.{Memory, Failed};
@@ -15,6 +14,7 @@ use crate::said::{Extra, Refused, Said};
 use clear_book::carried::carried_text;
 use clear_book::numbers::{ListNo, RunNo};
 use clear_book::outcomes::{Answer, Reply, Settlement};
+use clear_money::bytes::append_number;
 use clear_wire::rule::FramingStatus;
 use serde_json::Value;
 use std::alloc::{AllocError, Global};
@@ -57,16 +57,6 @@ fn status_of(said: &Said) -> &'static [u8]
         Said::Reply(_) | Said::Answer(_) => b"200 OK",
         Said::No(refused) => status_by(refused.rule.number(), &refused.extra),
     }
-}
-
-/// Appends a text, and a number in decimal.
-fn append_number(text: &mut Vec<u8>, before: &[u8], number: u64) -> Result<(), AllocError>
-    ensures { IfOk result (λ _. text.new.items
-        ≡ text.old.items ++ before.now ++ decimal number) }
-{
-    let digits = number.to_string(*text.allocator())?;
-    text.extend_from_slice(before)?;
-    text.extend_from_slice(digits.as_bytes())
 }
 
 fn detail_of(alloc: Global, refused: &Refused) -> Result<String, AllocError>

@@ -86,8 +86,8 @@ fn read_fault(error: Error) -> BankFault
     }
 }
 
-// A file without the byte order mark at its beginning.
-fn without_mark(bytes: &[u8]) -> &[u8]
+/// A file without the byte order mark that may stand at its beginning.
+pub fn without_mark(bytes: &[u8]) -> &[u8]
     ensures { result.now ≡ strip_bom bytes.now }
 {
     match bytes.strip_prefix(b"\xEF\xBB\xBF") {

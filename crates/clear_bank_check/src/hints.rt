@@ -3,7 +3,6 @@ ghost use Rattle.std.specs.Prelude.{◌≡◌, ◌↔◌, ◌==◌, ◌&&◌, no
 ghost use Rattle.std.specs.Prelude.{string_bytes};
 ghost use Rattle.std.specs.Char.{is_ascii_digit};
 ghost use Rattle.std.specs.List.{list_all, list_any, position};
-ghost use Rattle.csv.specs.Reading.{strip_bom};
 ghost use Rattle.csv.specs.Records.{fields_of};
 ghost use Rattle.clear_bank_check.specs.Hints.{AreHints, IsXml, at_fault, fits};
 ghost use Rattle.clear_bank_check.specs.Hints.{has_more_semicolons, has_semicolons, header_in};
@@ -15,6 +14,7 @@ ghost use Rattle.clear_bank_check.specs.Hints.{is_wrong, when};
 use crate::records::{bytes_in, read_records, record_at};
 use clear_bank::fault::BankFault;
 use clear_bank::fields::{BankField, RecordFault};
+use clear_bank::files::without_mark;
 use clear_check::texts::joined;
 use csv::ByteRecord;
 use std::alloc::{AllocError, Global};
@@ -125,16 +125,6 @@ fn is_xml(bytes: &[u8]) -> bool
     ensures { IsXml bytes.now result }
 {
     without_mark(bytes).trim_ascii_start().starts_with(b"<")
-}
-
-// A file without the byte order mark at its beginning.
-fn without_mark(bytes: &[u8]) -> &[u8]
-    ensures { result.now ≡ strip_bom bytes.now }
-{
-    match bytes.strip_prefix(b"\xEF\xBB\xBF") {
-        Some(text) => text,
-        None => bytes,
-    }
 }
 
 // A file that isn't in XML, and whose fields are parted by semicolons.

@@ -9,6 +9,7 @@ use Rattle.clear_values.specs.declared.replies.Reply.TheVariants.{Reminded}
 use Rattle.clear_values.specs.declared.rows.ReminderRow.{ReminderRow}
 use Rattle.clear_values.specs.declared.rows.RunRow.{RunRow}
 use Rattle.clear_values.specs.Keyed.{find_row}
+use Rattle.clear_values.specs.Limits.{most_level}
 use Rattle.clear_values.specs.Tables.{run_key}
 use Rattle.clear_book.specs.declared.calls.Command.{Command}
 use Rattle.clear_book.specs.declared.calls.Command.TheVariants.{RemindRun}
@@ -23,12 +24,12 @@ pub record LastReminder : Type 0 where
   pub level : ℕ
   pub day : ℕ
 
--- the level that is due on a day after it: none before the fourteenth day, then the next one, which
--- is 3 at most, and after more than 60 days the first one again
+-- the level that is due on a day after it: none before the fourteenth day, then the next one, up to
+-- the highest, and after more than 60 days the first one again
 abbrev pub level_after : LastReminder → ℕ → Option ℕ
 level_after last t =
     if nat_lt t (last.day + 14) then None
-    else if nat_le t (last.day + 60) then Some (min (last.level + 1) 3)
+    else if nat_le t (last.day + 60) then Some (min (last.level + 1) most_level)
     else Some 1
 
 -- the level that is due, if one is: the first one where there was no reminder

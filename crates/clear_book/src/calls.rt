@@ -1,7 +1,6 @@
 //! Who calls, and what is called for: who may call for it, the bytes under which a command is kept,
 //! and the ranges in which the values of a call lie.
 ghost use Rattle.std.specs.Prelude.{◌≡◌, ◌++◌, IfOk};
-ghost use Rattle.std.specs.Fmt.{decimal};
 ghost use Rattle.std.specs.List.{AllByRecursion};
 ghost use Rattle.clear_money.specs.Texts.{month_text};
 ghost use Rattle.clear_book.specs.declared.calls.Command.TheVariants.{AddRate, Assign, Claim};
@@ -14,6 +13,7 @@ ghost use Rattle.clear_book.specs.Calls.{IsCommand, IsReport, IsWageLine, may_do
 use crate::files::BankFile;
 use crate::numbers::{ClaimNo, ListNo, RequestNo, RunNo};
 use crate::texts::{Name, Reference, WageLine, WageLines};
+use clear_money::bytes::append_number;
 use clear_money::days::Day;
 use clear_money::months::Month;
 use clear_money::numbers::{Amount, EmployerNo, WorkerNo};
@@ -310,15 +310,6 @@ fn append_part(out: &mut Vec<u8>, before: &[u8], part: &[u8]) -> Result<(), Allo
 {
     out.extend_from_slice(before)?;
     out.extend_from_slice(part)
-}
-
-// Appends a text, and a number in decimal.
-fn append_number(out: &mut Vec<u8>, before: &[u8], number: u64) -> Result<(), AllocError>
-    ensures { IfOk result (λ _. out.new.items ≡ out.old.items ++ before.now ++ decimal number) }
-{
-    let digits = number.to_string(*out.allocator())?;
-    out.extend_from_slice(before)?;
-    out.extend_from_slice(digits.as_bytes())
 }
 
 // Appends a text, and a month.

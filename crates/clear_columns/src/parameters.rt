@@ -49,10 +49,7 @@ pub fn amount(value: Amount) -> ValueRef<'static>
 pub fn purpose(value: Purpose) -> ValueRef<'static>
     ensures { bound_value (owned result) ≡ stored.purpose value }
 {
-    match value {
-        Purpose::Contribution => text("C"),
-        Purpose::Interest => text("I"),
-    }
+    text(value.letter())
 }
 
 /// The number of a worker.

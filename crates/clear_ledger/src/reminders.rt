@@ -25,6 +25,7 @@ use clear_schema::fault::Fault;
 use clear_schema::statement::put;
 use clear_schema::values::number;
 use clear_values::causes::StoreCause;
+use clear_values::limits::MAX_LEVEL;
 use clear_values::numbers::RunNo;
 use clear_values::rows::ReminderRow;
 use sqlite::{Alter, Connection, Error, Row, Rows, Transaction};
@@ -121,7 +122,7 @@ fn is_reminder_row(row: &ReminderRow) -> bool
     let _employer = row.employer.number();
     let _first = month_number(row.first);
     row.level >= 1
-        && row.level <= 3
+        && row.level <= MAX_LEVEL
         && is_month_count(row.missing)
         && is_charged(row.arrears)
         && is_interest(row.interest)

@@ -10,6 +10,7 @@
 pub mod bytes;
 pub mod days;
 pub mod laws;
+pub mod limits;
 pub mod months;
 pub mod names;
 pub mod numbers;

@@ -5,7 +5,7 @@ ghost use Rattle.std.specs.Prelude.{IfErr, IfOk, OnErr};
 ghost use Rattle.std.specs.Iterator.{YieldsThen};
 ghost use Rattle.std.specs.List.{flat_map};
 ghost use Rattle.clear_book.specs.declared.rows.BankRow.{BankRow};
-ghost use Rattle.clear_book.specs.Documents.Suspense.{named_text, note_text, purpose_letter};
+ghost use Rattle.clear_book.specs.Documents.Suspense.{named_text, note_text};
 ghost use Rattle.clear_book.specs.Documents.Suspense.{suspense_day_line, suspense_line};
 ghost use Rattle.clear_book.specs.Documents.Suspense.{suspense_text, suspense_total_lines};
 ghost use Rattle.clear_texts.specs.Rows.{IsCutOffAdding};
@@ -15,7 +15,6 @@ use crate::line_rows::{LineRow, append_lines};
 use crate::lines::{append_day, append_number};
 use crate::rows::RowSource;
 use crate::whole::append_whole;
-use clear_bank::lines::Purpose;
 use clear_book::rows::BankRow;
 use clear_money::days::Day;
 use clear_money::numbers::EmployerNo;
@@ -192,22 +191,12 @@ fn append_suspense_line(text: &mut String, row: &BankRow) -> Result<(), AllocErr
     text.push_str(row.line.reference.as_str())?;
     append_day(text, " ", row.line.value)?;
     text.push_str(" ")?;
-    text.push_str(purpose_letter(row.line.purpose))?;
+    text.push_str(row.line.purpose.letter())?;
     append_named(text, row.line.employer)?;
     append_amount(text, " ", line_cents(row))?;
     append_note(text, row.line.note.as_str())?;
     text.push_str("\n")?;
     Ok(())
-}
-
-// The letter of a purpose.
-fn purpose_letter(purpose: Purpose) -> &'static str
-    ensures { result.now ≡ purpose_letter purpose }
-{
-    match purpose {
-        Purpose::Contribution => "C",
-        Purpose::Interest => "I",
-    }
 }
 
 // Behind a space, the firm that the file named, or a dash.

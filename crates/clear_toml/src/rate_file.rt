@@ -169,22 +169,24 @@ fn written_row(value: &Value) -> Option<WrittenRow<'_>>
         return None;
     }
     Some(WrittenRow {
-        from: text_of("from", value)?,
-        contribution_rate: number_of("contribution", value)?,
-        report_day: number_of("report_day", value)?,
-        due_day: number_of("due_day", value)?,
-        interest_rate: number_of("interest", value)?,
-        entitlement_rate: number_of("entitlement", value)?,
+        from: text_of(value, "from")?,
+        contribution_rate: number_of(value, "contribution")?,
+        report_day: number_of(value, "report_day")?,
+        due_day: number_of(value, "due_day")?,
+        interest_rate: number_of(value, "interest")?,
+        entitlement_rate: number_of(value, "entitlement")?,
     })
 }
 
-fn text_of<'a>(name: &str, row: &'a Value) -> Option<&'a str>
+/// The text that a row has under a name. None where it has none, or another value.
+pub fn text_of<'a>(row: &'a Value, name: &str) -> Option<&'a str>
     ensures { option_map (λ text. text.now) result ≡ text_of name.now (view row.now) }
 {
     row.get(name)?.as_str()
 }
 
-fn number_of(name: &str, row: &Value) -> Option<i64>
+/// The whole number that a row has under a name. None where it has none, or another value.
+pub fn number_of(row: &Value, name: &str) -> Option<i64>
     ensures { result ≡ number_of name.now (view row.now) }
 {
     row.get(name)?.as_integer()

@@ -51,6 +51,12 @@ most_reference_bytes = 35
 abbrev pub most_note_bytes : ℕ
 most_note_bytes = 140
 
+-- ---- of an office's own rows
+
+-- the level of a reminder
+abbrev pub most_level : ℕ
+most_level = 3
+
 -- ---- what follows for sums
 
 -- all interest of an employer, in cents: that of 2,400 months of the greatest base, 10 percent for

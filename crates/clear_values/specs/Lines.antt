@@ -1,10 +1,15 @@
 -- Bank lines, and when two of them are equal.
-use Rattle.std.specs.Prelude.{Bool, true, false, nat_eq, ◌==◌, ◌&&◌}
+use Rattle.std.specs.Prelude.{ℕ, List, codes, Bool, true, false, nat_eq, ◌==◌, ◌&&◌}
 use Rattle.std.specs.Option.{option_eq}
 use Rattle.std.specs.Str.{bytes_eq}
 use Rattle.clear_values.specs.declared.lines.BankLine.{BankLine}
 use Rattle.clear_values.specs.declared.lines.Purpose.{Purpose}
 use Rattle.clear_values.specs.declared.lines.Purpose.TheVariants.{Contribution, Interest}
+
+-- the letter of a purpose
+abbrev pub purpose_letter : Purpose → List ℕ
+purpose_letter Contribution = codes "C"
+purpose_letter Interest = codes "I"
 
 -- whether two purposes are one
 abbrev pub same_purpose : Purpose → Purpose → Bool

@@ -24,7 +24,7 @@ use Rattle.clear_values.specs.declared.rows.ReportRow.{ReportRow}
 use Rattle.clear_values.specs.declared.rows.RunRow.{RunRow}
 use Rattle.clear_values.specs.declared.rows.WageRow.{WageRow}
 use Rattle.clear_values.specs.Limits.{most_base, most_charged, most_claimed, most_employers}
-use Rattle.clear_values.specs.Limits.{most_entries, most_gross, most_interest, most_records}
+use Rattle.clear_values.specs.Limits.{most_entries, most_gross, most_interest, most_level, most_records}
 use Rattle.clear_values.specs.Limits.{most_serials, most_versions, most_weight}
 use Rattle.clear_values.specs.Numbers.{IsClaimNo, IsListNo, IsRequestNo, IsRunNo}
 use Rattle.clear_values.specs.Tables.{RequestRow, Tables}
@@ -132,7 +132,7 @@ pub record IsRunRow (row : RunRow) : Type 0 where
 pub record IsReminderRow (row : ReminderRow) : Type 0 where
   pub run : IsRunNo row.run
   pub employer : IsEmployerNo row.employer
-  pub level : (1 ≤ row.level) × (row.level ≤ 3)
+  pub level : (1 ≤ row.level) × (row.level ≤ most_level)
   pub missing : row.missing ≤ length months
   pub first : IfSome row.first IsMonth
   pub arrears : row.arrears ≤ most_charged

@@ -1,5 +1,7 @@
 //! How much a book, a request and an account may hold.
 
+pub use clear_money::limits::{MAX_BASE, MAX_CHARGED, MAX_CREDITED, MAX_CREDITS, MAX_WEIGHT};
+
 /// The accepted requests of a book.
 pub const MAX_ENTRIES: u64 = 50_000_000;
 
@@ -12,9 +14,6 @@ pub const MAX_LINES: usize = 500;
 /// The gross amount of a line, in cents.
 pub const MAX_GROSS: u64 = 10_000_000;
 
-/// The base of a month, which its contribution doesn't exceed, in cents.
-pub const MAX_BASE: u64 = 5_000_000_000;
-
 /// The versions of a month's report.
 pub const MAX_VERSIONS: u32 = 10_000;
 
@@ -24,27 +23,18 @@ pub const MAX_RECORDS: usize = 10_000;
 /// The lines in suspense.
 pub const MAX_SUSPENSE: u64 = 100_000;
 
-/// The credits of an employer for one purpose.
-pub const MAX_CREDITS: u64 = 100_000;
-
 /// The number of a request.
 pub const MAX_REQUEST_NO: u64 = 999_999_999_999_999_999;
 
 /// The bytes of a name.
 pub const MAX_NAME_BYTES: usize = 60;
 
-/// All contributions of an employer, in cents: 2,400 months of the greatest base.
-pub const MAX_CHARGED: u64 = 12_000_000_000_000;
-
-/// All credits of an employer for one purpose, in cents: 100,000 credits of 100,000,000,000 cents.
-pub const MAX_CREDITED: u64 = 10_000_000_000_000_000;
+/// The level of a reminder.
+pub const MAX_LEVEL: u8 = 3;
 
 /// All interest of an employer, in cents: that of 2,400 months of the greatest base, 10 percent for
 /// each of 2,412 begun months.
 pub const MAX_INTEREST: u64 = 2_894_400_000_000_000;
-
-/// The weight of a contribution, in cents: the greatest base, once for each of 2,412 begun months.
-pub const MAX_WEIGHT: u64 = 12_060_000_000_000;
 
 /// All claims, in cents: 50,000,000 claims of 100,000,000,000 cents.
 pub const MAX_CLAIMED: u64 = 5_000_000_000_000_000_000;

@@ -1,6 +1,6 @@
 //! The lines of bank files.
 ghost use Rattle.std.specs.Prelude.{◌≡◌, IfOk};
-ghost use Rattle.clear_values.specs.Lines.{same_content};
+ghost use Rattle.clear_values.specs.Lines.{purpose_letter, same_content};
 
 use crate::texts::{Note, Reference};
 use clear_money::days::Day;
@@ -12,6 +12,18 @@ use std::alloc::AllocError;
 pub enum Purpose {
     Contribution,
     Interest,
+}
+
+impl Purpose {
+    /// C for contributions, and I for interest.
+    pub fn letter(self) -> &'static str
+        ensures { result.now ≡ purpose_letter self }
+    {
+        match self {
+            Purpose::Contribution => "C",
+            Purpose::Interest => "I",
+        }
+    }
 }
 
 /// A payment that came in at the bank.

@@ -3,15 +3,9 @@ use Rattle.std.specs.Prelude.{ℕ, List, [], ◌∷◌, ◌++◌, codes, Option,
 use Rattle.std.specs.Fmt.{decimal}
 use Rattle.std.specs.List.{flat_map}
 use Rattle.clear_money.specs.Texts.{day_text}
-use Rattle.clear_values.specs.declared.lines.Purpose.{Purpose}
-use Rattle.clear_values.specs.declared.lines.Purpose.TheVariants.{Contribution, Interest}
+use Rattle.clear_values.specs.Lines.{purpose_letter}
 use Rattle.clear_values.specs.declared.rows.BankRow.{BankRow}
 use Rattle.clear_book.specs.Documents.Amounts.{amount_text}
-
--- the letter of a purpose
-abbrev pub purpose_letter : Purpose → List ℕ
-purpose_letter Contribution = codes "C"
-purpose_letter Interest = codes "I"
 
 -- the firm that a file named for a line, or a dash
 abbrev pub named_text : Option ℕ → List ℕ

@@ -21,7 +21,7 @@ use crate::texts::shown;
 use clear_money::months::Month;
 use clear_money::names::is_one_of;
 use clear_money::rates::RateRow;
-use clear_toml::rate_file::{ROW_MEMBERS, RateFault};
+use clear_toml::rate_file::{ROW_MEMBERS, RateFault, number_of, text_of};
 use std::alloc::{AllocError, Global};
 use toml::{Table, Value};
 
@@ -289,18 +289,4 @@ fn first_of(document: &Table, number: usize) -> Option<&str>
     ensures { option_map (λ text. text.now) result ≡ first_of number (table_view document.now) }
 {
     text_of(row(document, number)?, "from")
-}
-
-// The text that a row has under this name.
-fn text_of<'a>(row: &'a Value, name: &str) -> Option<&'a str>
-    ensures { option_map (λ text. text.now) result ≡ text_of name.now (view row.now) }
-{
-    row.get(name)?.as_str()
-}
-
-// The whole number that a row has under this name.
-fn number_of(row: &Value, name: &str) -> Option<i64>
-    ensures { result ≡ number_of name.now (view row.now) }
-{
-    row.get(name)?.as_integer()
 }

@@ -11,6 +11,7 @@ ghost use Rattle.clear_rules.specs.Decisions.{Refuses, IsJudged, TakesTables};
 ghost use Rattle.clear_rules.specs.Views.RemindRun.{IsRemindView, Reminds, firm_due};
 ghost use Rattle.clear_rules.specs.Views.RemindRun.{has_overdue, last_seen, rows_due};
 
+use clear_book::limits::MAX_LEVEL;
 use clear_book::numbers::RunNo;
 use clear_book::outcomes::Reply;
 use clear_book::rows::{Change, Decision, ReminderRow, Rows, RunRow};
@@ -19,6 +20,12 @@ use clear_money::days::Day;
 use clear_money::months::Month;
 use clear_money::numbers::EmployerNo;
 use std::alloc::{AllocError, Global};
+
+// So many days after a reminder the next one may be due to the firm.
+const DAYS_BETWEEN: u32 = 14;
+
+// Up to so many days after a reminder the level goes on, and after more it begins again.
+const DAYS_OF_A_LEVEL: u32 = 60;
 
 /// What a firm has overdue on the request's day, and its last reminder.
 #[derive(Clone, Copy)]
@@ -148,15 +155,15 @@ fn level_due(last: Option<LastReminder>, day: Day) -> Option<u8>
 }
 
 // The level that is due on a day after a reminder, if one is: from the fourteenth day on the next
-// one, which is 3 at most, and after more than 60 days the first one again.
+// one, up to the highest, and after more than 60 days the first one again.
 fn level_after(last: LastReminder, day: Day) -> Option<u8>
     ensures { result ≡ level_after (last_seen last) day }
 {
     let (from, now) = (last.day.number(), day.number());
-    if now < from + 14 {
+    if now < from + DAYS_BETWEEN {
         None
-    } else if now <= from + 60 {
-        Some(last.level.saturating_add(1).min(3))
+    } else if now <= from + DAYS_OF_A_LEVEL {
+        Some(last.level.saturating_add(1).min(MAX_LEVEL))
     } else {
         Some(1)
     }
