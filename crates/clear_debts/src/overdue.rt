@@ -1,17 +1,14 @@
 //! What a firm has overdue on a day, by what is kept of it.
 ghost use Rattle.std.specs.Prelude.{◌≡◌, ◌≤◌, IfErr, IfOk, None, length};
-ghost use Rattle.sqlite.specs.Held.{state};
-ghost use Rattle.sqlite.specs.State.{HasCleanDisk};
 ghost use Rattle.clear_book.specs.Allocated.{StandsWeighed};
 ghost use Rattle.clear_book.specs.Book.{Book, rates_of};
 ghost use Rattle.clear_book.specs.Judge.{day_back};
 ghost use Rattle.clear_book.specs.Limits.{most_credits, most_months};
 ghost use Rattle.clear_book.specs.Machine.{IsLawful};
-ghost use Rattle.clear_book.specs.Tables.{Tables};
 ghost use Rattle.clear_schema.specs.Frame.{Leaves};
 ghost use Rattle.clear_schema.specs.Faults.{IsOfDisk};
-ghost use Rattle.clear_schema.specs.Held.{HasTables};
 ghost use Rattle.clear_debts.specs.Overdue.{AreKept, IsFirm, interest_amounts, overdue_told};
+ghost use Rattle.clear_debts.specs.Reads.{OfTables};
 
 use crate::owing::{add_amounts, find_charges};
 use clear_bank::lines::Purpose;
@@ -57,14 +54,12 @@ pub fn read_overdue<S: Alter>(
     day: Day,
 ) -> Result<Overdue, Fault>
     ensures same_reference { tx.new.conn.ghost_name ≡ tx.old.conn.ghost_name }
-    ensures overdue { HasCleanDisk (state S.Store tx.new.conn.now)
-        → (t : Tables) → HasTables t (state S.Store tx.old.conn.now).now
-        → (b : Book) → IsLawful b → StandsWeighed b t → day_back t.day day ≡ None
+    ensures overdue { OfTables S.Store tx.old.conn.now tx.new.conn.now (λ t.
+        (b : Book) → IsLawful b → StandsWeighed b t → day_back t.day day ≡ None
         → rates.now ≡ rates_of b → IsFirm b member.now
-        → IfOk result (λ overdue. overdue ≡ overdue_told b day member.now.employer) }
-    ensures fault { HasCleanDisk (state S.Store tx.new.conn.now)
-        → (t : Tables) → HasTables t (state S.Store tx.old.conn.now).now
-        → (b : Book) → IsLawful b → StandsWeighed b t → IfErr result IsOfDisk }
+        → IfOk result (λ overdue. overdue ≡ overdue_told b day member.now.employer)) }
+    ensures fault { OfTables S.Store tx.old.conn.now tx.new.conn.now (λ t.
+        (b : Book) → IsLawful b → StandsWeighed b t → IfErr result IsOfDisk) }
     ensures leaves { Leaves S.Store tx.old.conn.now tx.new.conn.now result }
 {
     let charges = find_charges(alloc, tx, member.employer)?;

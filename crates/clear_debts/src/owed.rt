@@ -1,16 +1,13 @@
 //! What a firm owes, by its rows alone.
 ghost use Rattle.std.specs.Prelude.{◌≡◌, IfErr, IfOk};
-ghost use Rattle.sqlite.specs.Held.{state};
-ghost use Rattle.sqlite.specs.State.{HasCleanDisk};
 ghost use Rattle.clear_book.specs.Allocated.{StandsWeighed};
 ghost use Rattle.clear_book.specs.Book.{Book};
 ghost use Rattle.clear_book.specs.Machine.{IsLawful};
 ghost use Rattle.clear_book.specs.Own.Owed.{owed_by};
-ghost use Rattle.clear_book.specs.Tables.{Tables};
 ghost use Rattle.clear_schema.specs.Frame.{Leaves};
 ghost use Rattle.clear_schema.specs.Faults.{IsOfDisk};
-ghost use Rattle.clear_schema.specs.Held.{HasTables};
 ghost use Rattle.clear_debts.specs.Owing.{owed_kept};
+ghost use Rattle.clear_debts.specs.Reads.{OfTables};
 
 use crate::owing::find_account;
 use clear_book::outcomes::Answer;
@@ -29,17 +26,14 @@ pub fn owed<S: Alter>(
     employer: EmployerNo,
 ) -> Result<Answer, Fault>
     ensures same_reference { tx.new.conn.ghost_name ≡ tx.old.conn.ghost_name }
-    ensures answer { HasCleanDisk (state S.Store tx.new.conn.now)
-        → (t : Tables) → HasTables t (state S.Store tx.old.conn.now).now
-        → (b : Book) → IsLawful b → StandsWeighed b t
-        → IfOk result (λ answer. answer ≡ owed_by b employer day) }
+    ensures answer { OfTables S.Store tx.old.conn.now tx.new.conn.now (λ t.
+        (b : Book) → IsLawful b → StandsWeighed b t
+        → IfOk result (λ answer. answer ≡ owed_by b employer day)) }
     // Whatever the tables hold, it is told by what is kept.
-    ensures kept { HasCleanDisk (state S.Store tx.new.conn.now)
-        → (t : Tables) → HasTables t (state S.Store tx.old.conn.now).now
-        → IfOk result (λ answer. answer ≡ owed_kept t employer day) }
-    ensures fault { HasCleanDisk (state S.Store tx.new.conn.now)
-        → (t : Tables) → HasTables t (state S.Store tx.old.conn.now).now
-        → (b : Book) → IsLawful b → StandsWeighed b t → IfErr result IsOfDisk }
+    ensures kept { OfTables S.Store tx.old.conn.now tx.new.conn.now (λ t.
+        IfOk result (λ answer. answer ≡ owed_kept t employer day)) }
+    ensures fault { OfTables S.Store tx.old.conn.now tx.new.conn.now (λ t.
+        (b : Book) → IsLawful b → StandsWeighed b t → IfErr result IsOfDisk) }
     ensures leaves { Leaves S.Store tx.old.conn.now tx.new.conn.now result }
 {
     let firm = find_account(alloc, tx, employer)?;

@@ -1,22 +1,19 @@
 //! What is kept of a firm's contributions, and what it paid of them.
 ghost use Rattle.std.specs.Prelude.{◌≡◌, ◌≤◌, IfErr, IfOk, IsOk, length, map};
 ghost use Rattle.std.specs.List.{sum};
-ghost use Rattle.sqlite.specs.Held.{state};
-ghost use Rattle.sqlite.specs.State.{HasCleanDisk};
 ghost use Rattle.clear_account.specs.Account.{credited};
 ghost use Rattle.clear_book.specs.Accounts.{charges_of, credits_of};
 ghost use Rattle.clear_book.specs.Allocated.{StandsWeighed, weighed_in, weighed_rows};
 ghost use Rattle.clear_book.specs.Book.{Book};
 ghost use Rattle.clear_book.specs.Limits.{most_credits};
 ghost use Rattle.clear_book.specs.Machine.{IsLawful};
-ghost use Rattle.clear_book.specs.Tables.{Tables, table_credits};
+ghost use Rattle.clear_book.specs.Tables.{table_credits};
 ghost use Rattle.clear_kept.specs.Owing.{AreWeighedInRange};
 ghost use Rattle.clear_kept.specs.Weighed.{weighed_charges};
 ghost use Rattle.clear_schema.specs.Frame.{Leaves};
 ghost use Rattle.clear_schema.specs.Faults.{IsOfDisk};
-ghost use Rattle.clear_schema.specs.Held.{HasTables};
 ghost use Rattle.clear_debts.specs.Owing.{credited_by, HasKept};
-ghost use Rattle.clear_debts.specs.Reads.{LeavesOpen};
+ghost use Rattle.clear_debts.specs.Reads.{LeavesOpen, OfTables};
 
 use clear_bank::lines::Purpose;
 use clear_book::limits::MAX_CREDITED;
@@ -53,22 +50,19 @@ pub fn find_account<S: Alter>(
     employer: EmployerNo,
 ) -> Result<KeptAccount, Fault>
     ensures same_reference { tx.new.conn.ghost_name ≡ tx.old.conn.ghost_name }
-    ensures account { HasCleanDisk (state S.Store tx.new.conn.now)
-        → (t : Tables) → HasTables t (state S.Store tx.old.conn.now).now
-        → (b : Book) → IsLawful b → StandsWeighed b t → IfOk result (λ found.
+    ensures account { OfTables S.Store tx.old.conn.now tx.new.conn.now (λ t.
+        (b : Book) → IsLawful b → StandsWeighed b t
+        → IfOk result (λ found.
         (found.charges ≡ weighed_charges (charges_of b employer) (credits_of b employer))
-        × (found.credited ≡ credited (credits_of b employer))) }
+        × (found.credited ≡ credited (credits_of b employer)))) }
     // Whatever the tables hold, it is what is kept: where a part is open, no payment is read.
-    ensures kept { HasCleanDisk (state S.Store tx.new.conn.now)
-        → (t : Tables) → HasTables t (state S.Store tx.old.conn.now).now
-        → IfOk result (λ found. found.charges ≡ weighed_rows t employer) }
-    ensures credited { HasCleanDisk (state S.Store tx.new.conn.now)
-        → (t : Tables) → HasTables t (state S.Store tx.old.conn.now).now
-        → IfOk result (λ found. found.credited
-        ≡ credited_by found.charges (table_credits t employer)) }
-    ensures fault { HasCleanDisk (state S.Store tx.new.conn.now)
-        → (t : Tables) → HasTables t (state S.Store tx.old.conn.now).now
-        → (b : Book) → IsLawful b → StandsWeighed b t → IfErr result IsOfDisk }
+    ensures kept { OfTables S.Store tx.old.conn.now tx.new.conn.now (λ t.
+        IfOk result (λ found. found.charges ≡ weighed_rows t employer)) }
+    ensures credited { OfTables S.Store tx.old.conn.now tx.new.conn.now (λ t.
+        IfOk result (λ found. found.credited
+        ≡ credited_by found.charges (table_credits t employer))) }
+    ensures fault { OfTables S.Store tx.old.conn.now tx.new.conn.now (λ t.
+        (b : Book) → IsLawful b → StandsWeighed b t → IfErr result IsOfDisk) }
     ensures leaves { Leaves S.Store tx.old.conn.now tx.new.conn.now result }
 {
     let charges = find_charges(alloc, tx, employer)?;
@@ -83,12 +77,10 @@ pub(crate) fn find_charges<S: Alter>(
     employer: EmployerNo,
 ) -> Result<WeighedCharges, Fault>
     ensures same_reference { tx.new.conn.ghost_name ≡ tx.old.conn.ghost_name }
-    ensures charges { HasCleanDisk (state S.Store tx.new.conn.now)
-        → (t : Tables) → HasTables t (state S.Store tx.old.conn.now).now
-        → IfOk result (λ charges. charges ≡ weighed_rows t employer) }
-    ensures fault { HasCleanDisk (state S.Store tx.new.conn.now)
-        → (t : Tables) → HasTables t (state S.Store tx.old.conn.now).now
-        → HasKept t employer → IfErr result IsOfDisk }
+    ensures charges { OfTables S.Store tx.old.conn.now tx.new.conn.now (λ t.
+        IfOk result (λ charges. charges ≡ weighed_rows t employer)) }
+    ensures fault { OfTables S.Store tx.old.conn.now tx.new.conn.now (λ t.
+        HasKept t employer → IfErr result IsOfDisk) }
     ensures leaves { Leaves S.Store tx.old.conn.now tx.new.conn.now result }
 {
     let rows = charges_of(tx, employer)?;
@@ -130,12 +122,10 @@ fn find_credited<S: Alter>(
     employer: EmployerNo,
 ) -> Result<u64, Fault>
     ensures same_reference { tx.new.conn.ghost_name ≡ tx.old.conn.ghost_name }
-    ensures credited { HasCleanDisk (state S.Store tx.new.conn.now)
-        → (t : Tables) → HasTables t (state S.Store tx.old.conn.now).now
-        → IfOk result (λ cents. cents ≡ credited_by charges.now (table_credits t employer)) }
-    ensures fault { HasCleanDisk (state S.Store tx.new.conn.now)
-        → (t : Tables) → HasTables t (state S.Store tx.old.conn.now).now
-        → HasKept t employer → IfErr result IsOfDisk }
+    ensures credited { OfTables S.Store tx.old.conn.now tx.new.conn.now (λ t.
+        IfOk result (λ cents. cents ≡ credited_by charges.now (table_credits t employer))) }
+    ensures fault { OfTables S.Store tx.old.conn.now tx.new.conn.now (λ t.
+        HasKept t employer → IfErr result IsOfDisk) }
     ensures leaves { LeavesOpen S.Store tx.old.conn.now tx.new.conn.now result }
 {
     let open = charges.open();
@@ -148,12 +138,10 @@ fn find_credited<S: Alter>(
 // The credits of a firm for contributions, in cents.
 fn add_paid<S: Alter>(tx: &mut Transaction<'_, S>, employer: EmployerNo) -> Result<u64, Fault>
     ensures same_reference { tx.new.conn.ghost_name ≡ tx.old.conn.ghost_name }
-    ensures paid { HasCleanDisk (state S.Store tx.new.conn.now)
-        → (t : Tables) → HasTables t (state S.Store tx.old.conn.now).now
-        → IfOk result (λ cents. cents ≡ credited (table_credits t employer)) }
-    ensures fault { HasCleanDisk (state S.Store tx.new.conn.now)
-        → (t : Tables) → HasTables t (state S.Store tx.old.conn.now).now
-        → HasKept t employer → IfErr result IsOfDisk }
+    ensures paid { OfTables S.Store tx.old.conn.now tx.new.conn.now (λ t.
+        IfOk result (λ cents. cents ≡ credited (table_credits t employer))) }
+    ensures fault { OfTables S.Store tx.old.conn.now tx.new.conn.now (λ t.
+        HasKept t employer → IfErr result IsOfDisk) }
     ensures leaves { Leaves S.Store tx.old.conn.now tx.new.conn.now result }
 {
     let amounts = credit_amounts(tx, employer, Purpose::Contribution)?;

@@ -4,7 +4,6 @@ use Rattle.std.specs.Prelude.{List, Result, IfErr, OnOk}
 use Rattle.std.specs.List.{AllByRecursion}
 use Rattle.sqlite.specs.Effect.{Database}
 use Rattle.sqlite.specs.Held.{Held, state}
-use Rattle.sqlite.specs.State.{HasCleanDisk}
 use Rattle.sqlite.specs.Store.{Ghosts}
 use Rattle.clear_values.specs.Keyed.{replaced_rows}
 use Rattle.clear_values.specs.RowRanges.{IsKeptCharge}
@@ -15,6 +14,7 @@ use Rattle.clear_schema.specs.Faults.{IsOfDisk}
 use Rattle.clear_schema.specs.Frame.{GoesOn}
 use Rattle.clear_schema.specs.Held.{HasTables}
 use Rattle.clear_schema.specs.declared.fault.Fault.{Fault}
+use Rattle.clear_debts.specs.Reads.{OfTables}
 
 -- the database has what some rows make of the tables, and these rows are right
 abbrev pub HasAltered : {X : Type 0} → (Tables → X → Tables) → (Tables → X → Type 0) → Tables
@@ -26,10 +26,9 @@ HasAltered {X} altered are_right t db = (x : X) × HasTables (altered t x) db ×
 pub record Alters {S A X : Type 0} (g : Ghosts S) (old new : Held S) (result : Result A Fault)
     (altered : Tables → X → Tables) (are_right : Tables → X → Type 0)
     (is_sound : Tables → Type 0) : Type 0 where
-  pub put : HasCleanDisk (state g new) → (t : Tables) → HasTables t (state g old).now
-      → OnOk result (HasAltered altered are_right t (state g new).now)
-  pub fault : HasCleanDisk (state g new) → (t : Tables) → HasTables t (state g old).now
-      → is_sound t → IfErr result IsOfDisk
+  pub put : OfTables g old new (λ t.
+      OnOk result (HasAltered altered are_right t (state g new).now))
+  pub fault : OfTables g old new (λ t. is_sound t → IfErr result IsOfDisk)
   pub stays : GoesOn g old new result
 
 module _ {S A : Type 0} (g : Ghosts S) (old new : Held S) (result : Result A Fault) where

@@ -3,8 +3,6 @@
 //! open part are taken.
 ghost use Rattle.std.specs.Prelude.{◌≡◌, ◌≤◌, [], All, IfErr, IfOk, length, map};
 ghost use Rattle.std.specs.List.{AllByRecursion};
-ghost use Rattle.sqlite.specs.Held.{state};
-ghost use Rattle.sqlite.specs.State.{HasCleanDisk};
 ghost use Rattle.clear_account.specs.Account.{IsAccount, IsCharge, charged_up_to};
 ghost use Rattle.clear_kept.specs.Start.{StartsAt};
 ghost use Rattle.clear_values.specs.Keyed.{AreOnce, with_rows};
@@ -13,10 +11,9 @@ ghost use Rattle.clear_values.specs.Tables.{piece_key};
 ghost use Rattle.clear_book.specs.Accounts.{row_credit};
 ghost use Rattle.clear_book.specs.Allocated.{kept_charges};
 ghost use Rattle.clear_book.specs.Limits.{most_credits};
-ghost use Rattle.clear_book.specs.Tables.{Tables, charge_in, table_credits};
+ghost use Rattle.clear_book.specs.Tables.{charge_in, table_credits};
 ghost use Rattle.clear_schema.specs.Faults.{IsOfDisk};
 ghost use Rattle.clear_schema.specs.Frame.{Leaves};
-ghost use Rattle.clear_schema.specs.Held.{HasTables};
 ghost use Rattle.clear_store.specs.Changes.{AreFree};
 ghost use Rattle.clear_pieces.specs.Filled.{credit_serial, with_charges, with_credits};
 ghost use Rattle.clear_pieces.specs.Allocates.{Allocates, Alters, Settles};
@@ -24,6 +21,7 @@ ghost use Rattle.clear_pieces.specs.Anew.{FromCredit, IsFreeBehind};
 ghost use Rattle.clear_pieces.specs.Behind.{AreLast, IsOpenFirm, IsWeighedBefore, open_row};
 ghost use Rattle.clear_pieces.specs.Behind.{paid_charges, paid_rows, rows_from, with_paid};
 ghost use Rattle.clear_pieces.specs.Firm.{HasItsRows, KeepsAccount, pieces_from};
+ghost use Rattle.clear_debts.specs.Reads.{OfTables};
 
 use crate::charges::charges_to_put;
 use crate::credits::add_credits;
@@ -94,15 +92,12 @@ fn read_open<S: Alter>(
     behind: Vec<CreditRow>,
 ) -> Result<OpenFirm, Fault>
     ensures same_reference { tx.new.conn.ghost_name ≡ tx.old.conn.ghost_name }
-    ensures firm { HasCleanDisk (state S.Store tx.new.conn.now)
-        → (t : Tables) → HasTables t (state S.Store tx.old.conn.now).now → (first : Credit)
-        → IsAccount (kept_charges t employer) (table_credits t employer)
-        → behind.items ≡ rows_from t employer first
-        → IfOk result (IsOpenFirm t employer first) }
-    ensures fault { HasCleanDisk (state S.Store tx.new.conn.now)
-        → (t : Tables) → HasTables t (state S.Store tx.old.conn.now).now → (first : Credit)
-        → KeepsAccount t employer → behind.items ≡ rows_from t employer first
-        → IfErr result IsOfDisk }
+    ensures firm { OfTables S.Store tx.old.conn.now tx.new.conn.now (λ t.
+        (first : Credit) → IsAccount (kept_charges t employer) (table_credits t employer)
+        → behind.items ≡ rows_from t employer first → IfOk result (IsOpenFirm t employer first)) }
+    ensures fault { OfTables S.Store tx.old.conn.now tx.new.conn.now (λ t.
+        (first : Credit) → KeepsAccount t employer → behind.items ≡ rows_from t employer first
+        → IfErr result IsOfDisk) }
     ensures leaves { Leaves S.Store tx.old.conn.now tx.new.conn.now result }
 {
     let charges = open_charges_of(tx, employer)?;

@@ -1,15 +1,13 @@
 //! A firm's account, read from the rows that keep it.
 ghost use Rattle.std.specs.Prelude.{◌≡◌, [], All, IfErr, IfOk, OnOk, map};
-ghost use Rattle.sqlite.specs.Held.{state};
-ghost use Rattle.sqlite.specs.State.{HasCleanDisk};
 ghost use Rattle.clear_account.specs.Account.{IsCharge, with_charge};
 ghost use Rattle.clear_book.specs.Allocated.{contribution_rows, kept_charges};
-ghost use Rattle.clear_book.specs.Tables.{Tables, charge_in, table_credits};
+ghost use Rattle.clear_book.specs.Tables.{charge_in, table_credits};
 ghost use Rattle.clear_schema.specs.Frame.{Leaves};
 ghost use Rattle.clear_schema.specs.Faults.{IsOfDisk};
-ghost use Rattle.clear_schema.specs.Held.{HasTables};
 ghost use Rattle.clear_pieces.specs.Filled.{with_charges, with_credits};
 ghost use Rattle.clear_pieces.specs.Firm.{KeepsAccount};
+ghost use Rattle.clear_debts.specs.Reads.{OfTables};
 
 use crate::credits::add_credits;
 use clear_account::entries::{AccountFault, Charge};
@@ -45,20 +43,14 @@ pub fn read_firm<S: Alter>(
     employer: EmployerNo,
 ) -> Result<FirmAccount, Fault>
     ensures same_reference { tx.new.conn.ghost_name ≡ tx.old.conn.ghost_name }
-    ensures charges { HasCleanDisk (state S.Store tx.new.conn.now)
-        → (t : Tables) → HasTables t (state S.Store tx.old.conn.now).now
-        → IfOk result (λ firm. firm.account.charges
-        ≡ with_charges (kept_charges t employer) []) }
-    ensures credits { HasCleanDisk (state S.Store tx.new.conn.now)
-        → (t : Tables) → HasTables t (state S.Store tx.old.conn.now).now
-        → IfOk result (λ firm. firm.account.credits
-        ≡ with_credits (table_credits t employer) []) }
-    ensures rows { HasCleanDisk (state S.Store tx.new.conn.now)
-        → (t : Tables) → HasTables t (state S.Store tx.old.conn.now).now
-        → IfOk result (λ firm. firm.rows.items ≡ contribution_rows t employer) }
-    ensures fault { HasCleanDisk (state S.Store tx.new.conn.now)
-        → (t : Tables) → HasTables t (state S.Store tx.old.conn.now).now
-        → KeepsAccount t employer → IfErr result IsOfDisk }
+    ensures charges { OfTables S.Store tx.old.conn.now tx.new.conn.now (λ t.
+        IfOk result (λ firm. firm.account.charges ≡ with_charges (kept_charges t employer) [])) }
+    ensures credits { OfTables S.Store tx.old.conn.now tx.new.conn.now (λ t.
+        IfOk result (λ firm. firm.account.credits ≡ with_credits (table_credits t employer) [])) }
+    ensures rows { OfTables S.Store tx.old.conn.now tx.new.conn.now (λ t.
+        IfOk result (λ firm. firm.rows.items ≡ contribution_rows t employer)) }
+    ensures fault { OfTables S.Store tx.old.conn.now tx.new.conn.now (λ t.
+        KeepsAccount t employer → IfErr result IsOfDisk) }
     ensures leaves { Leaves S.Store tx.old.conn.now tx.new.conn.now result }
 {
     let mut account = Plain::new(alloc);
@@ -74,14 +66,12 @@ fn read_charges<S: Alter>(
     employer: EmployerNo,
 ) -> Result<(), Fault>
     ensures same_reference { tx.new.conn.ghost_name ≡ tx.old.conn.ghost_name }
-    ensures charges { HasCleanDisk (state S.Store tx.new.conn.now)
-        → (t : Tables) → HasTables t (state S.Store tx.old.conn.now).now
-        → OnOk result (account.new.charges
-        ≡ with_charges (kept_charges t employer) account.old.charges) }
+    ensures charges { OfTables S.Store tx.old.conn.now tx.new.conn.now (λ t.
+        OnOk result (account.new.charges
+        ≡ with_charges (kept_charges t employer) account.old.charges)) }
     ensures credits { account.new.credits ≡ account.old.credits }
-    ensures fault { HasCleanDisk (state S.Store tx.new.conn.now)
-        → (t : Tables) → HasTables t (state S.Store tx.old.conn.now).now
-        → KeepsAccount t employer → IfErr result IsOfDisk }
+    ensures fault { OfTables S.Store tx.old.conn.now tx.new.conn.now (λ t.
+        KeepsAccount t employer → IfErr result IsOfDisk) }
     ensures leaves { Leaves S.Store tx.old.conn.now tx.new.conn.now result }
 {
     let rows = charges_of(tx, employer)?;
@@ -98,17 +88,13 @@ fn read_credits<S: Alter>(
 ) -> Result<Vec<CreditRow>, Fault>
     requires none { account.old.credits ≡ [] }
     ensures same_reference { tx.new.conn.ghost_name ≡ tx.old.conn.ghost_name }
-    ensures rows { HasCleanDisk (state S.Store tx.new.conn.now)
-        → (t : Tables) → HasTables t (state S.Store tx.old.conn.now).now
-        → IfOk result (λ rows. rows.items ≡ contribution_rows t employer) }
-    ensures credits { HasCleanDisk (state S.Store tx.new.conn.now)
-        → (t : Tables) → HasTables t (state S.Store tx.old.conn.now).now
-        → OnOk result (account.new.credits
-        ≡ with_credits (table_credits t employer) []) }
+    ensures rows { OfTables S.Store tx.old.conn.now tx.new.conn.now (λ t.
+        IfOk result (λ rows. rows.items ≡ contribution_rows t employer)) }
+    ensures credits { OfTables S.Store tx.old.conn.now tx.new.conn.now (λ t.
+        OnOk result (account.new.credits ≡ with_credits (table_credits t employer) [])) }
     ensures charges { account.new.charges ≡ account.old.charges }
-    ensures fault { HasCleanDisk (state S.Store tx.new.conn.now)
-        → (t : Tables) → HasTables t (state S.Store tx.old.conn.now).now
-        → KeepsAccount t employer → IfErr result IsOfDisk }
+    ensures fault { OfTables S.Store tx.old.conn.now tx.new.conn.now (λ t.
+        KeepsAccount t employer → IfErr result IsOfDisk) }
     ensures leaves { Leaves S.Store tx.old.conn.now tx.new.conn.now result }
 {
     let rows = credits_of(tx, employer, Purpose::Contribution)?;

@@ -4,7 +4,6 @@ ghost use Rattle.std.specs.Prelude.{◌≡◌, ℕ, IfErr, IfOk, List, None, OnO
 ghost use Rattle.std.specs.BTreeMap.{get};
 ghost use Rattle.std.specs.Ordering.{nat_cmp};
 ghost use Rattle.sqlite.specs.Held.{state};
-ghost use Rattle.sqlite.specs.State.{HasCleanDisk};
 ghost use Rattle.clear_values.specs.declared.rows.CreditRow.{CreditRow};
 ghost use Rattle.clear_values.specs.declared.rows.KeptCharge.{KeptCharge};
 ghost use Rattle.clear_values.specs.declared.rows.PieceRow.{PieceRow};
@@ -21,6 +20,7 @@ ghost use Rattle.clear_pieces.specs.Keeping.{AreForInterest, AreTogether, Concer
 ghost use Rattle.clear_pieces.specs.Keeping.{IsOfCorrection, TellsStood};
 ghost use Rattle.clear_pieces.specs.Keeping.{alone, credit_for};
 ghost use Rattle.clear_pieces.specs.Keeping.{earlier as earlier_credit};
+ghost use Rattle.clear_debts.specs.Reads.{OfTables};
 
 use crate::allocate::{allocate_from_charge, allocate_from_credits};
 use crate::behind::NewCredits;
@@ -42,16 +42,13 @@ use std::slice;
 /// with `Fault::Store(StoreCause::Row)`.
 pub fn charge_stood<S: Alter>(tx: &mut Transaction<'_, S>, change: &Change) -> Result<bool, Fault>
     ensures same_reference { tx.new.conn.ghost_name ≡ tx.old.conn.ghost_name }
-    ensures told { HasCleanDisk (state S.Store tx.new.conn.now)
-        → (t : Tables) → HasTables t (state S.Store tx.old.conn.now).now
-        → IfOk result (TellsStood change.now t) }
+    ensures told { OfTables S.Store tx.old.conn.now tx.new.conn.now (λ t.
+        IfOk result (TellsStood change.now t)) }
     ensures corrections { IfOk result (IsOfCorrection change.now) }
-    ensures fault { HasCleanDisk (state S.Store tx.new.conn.now)
-        → (t : Tables) → HasTables t (state S.Store tx.old.conn.now).now
-        → AreInRange t → IfErr result IsOfDisk }
-    ensures still { HasCleanDisk (state S.Store tx.new.conn.now)
-        → (t : Tables) → HasTables t (state S.Store tx.old.conn.now).now
-        → OnOk result (HasTables t (state S.Store tx.new.conn.now).now) }
+    ensures fault { OfTables S.Store tx.old.conn.now tx.new.conn.now (λ t.
+        AreInRange t → IfErr result IsOfDisk) }
+    ensures still { OfTables S.Store tx.old.conn.now tx.new.conn.now (λ t.
+        OnOk result (HasTables t (state S.Store tx.new.conn.now).now)) }
     ensures stays { GoesOn S.Store tx.old.conn.now tx.new.conn.now result }
 {
     match change {
@@ -87,18 +84,15 @@ pub fn keep_pieces<S: Alter>(
     stood: bool,
 ) -> Result<(), Fault>
     ensures same_reference { tx.new.conn.ghost_name ≡ tx.old.conn.ghost_name }
-    ensures keeps { HasCleanDisk (state S.Store tx.new.conn.now)
-        → (v : Tables) → HasTables v (state S.Store tx.old.conn.now).now
-        → OnOk result ((pieces : List PieceRow) × (charges : List KeptCharge)
+    ensures keeps { OfTables S.Store tx.old.conn.now tx.new.conn.now (λ v.
+        OnOk result ((pieces : List PieceRow) × (charges : List KeptCharge)
         × HasTables (record v { pieces = pieces; charges = charges })
-        (state S.Store tx.new.conn.now).now
-        × ((t : Tables) → IsPut change.now t v → TellsStood change.now t stood
-        → AreFollowing t v pieces charges)) }
-    ensures fault { HasCleanDisk (state S.Store tx.new.conn.now)
-        → (v : Tables) → HasTables v (state S.Store tx.old.conn.now).now
-        → (t : Tables) → IsPut change.now t v → TellsStood change.now t stood
-        → (g : PieceRow → PieceRow) → KeepsKeys g → AreAllocated g t
-        → AreInRange v → IfErr result IsOfDisk }
+        (state S.Store tx.new.conn.now).now × ((t : Tables) → IsPut change.now t v
+        → TellsStood change.now t stood → AreFollowing t v pieces charges))) }
+    ensures fault { OfTables S.Store tx.old.conn.now tx.new.conn.now (λ v.
+        (t : Tables) → IsPut change.now t v → TellsStood change.now t stood
+        → (g : PieceRow → PieceRow) → KeepsKeys g → AreAllocated g t → AreInRange v
+        → IfErr result IsOfDisk) }
     ensures stays { GoesOn S.Store tx.old.conn.now tx.new.conn.now result }
     // Nothing is read or written where the change concerns no account, whatever the tables hold.
     ensures rests { ConcernsNone change.now stood → tx.new.conn.now ≡ tx.old.conn.now }

@@ -1,13 +1,11 @@
 //! Whether a contribution that is to be kept is kept already.
 ghost use Rattle.std.specs.Prelude.{◌≡◌, ◌↔◌, IfErr, IfOk, IsTrue, Some};
 ghost use Rattle.std.specs.List.{AllByRecursion};
-ghost use Rattle.sqlite.specs.Held.{state};
-ghost use Rattle.sqlite.specs.State.{HasCleanDisk};
 ghost use Rattle.clear_values.specs.RowRanges.{IsKeptCharge};
-ghost use Rattle.clear_book.specs.Tables.{Tables, charge_at, charge_in};
+ghost use Rattle.clear_book.specs.Tables.{charge_at, charge_in};
 ghost use Rattle.clear_schema.specs.Frame.{Leaves};
 ghost use Rattle.clear_schema.specs.Faults.{IsOfDisk};
-ghost use Rattle.clear_schema.specs.Held.{HasTables};
+ghost use Rattle.clear_debts.specs.Reads.{OfTables};
 
 use clear_firms::charges::find_charge;
 use clear_schema::fault::Fault;
@@ -21,14 +19,11 @@ pub fn charge_stands<S: Alter>(
     charge: &KeptCharge,
 ) -> Result<bool, Fault>
     ensures same_reference { tx.new.conn.ghost_name ≡ tx.old.conn.ghost_name }
-    ensures stands { HasCleanDisk (state S.Store tx.new.conn.now)
-        → (t : Tables) → HasTables t (state S.Store tx.old.conn.now).now
-        → IfOk result (λ stands. IsTrue stands
-        ↔ (charge_at t.charges charge.now.employer charge.now.month
-        ≡ Some (charge_in charge.now))) }
-    ensures fault { HasCleanDisk (state S.Store tx.new.conn.now)
-        → (t : Tables) → HasTables t (state S.Store tx.old.conn.now).now
-        → AllByRecursion IsKeptCharge t.charges → IfErr result IsOfDisk }
+    ensures stands { OfTables S.Store tx.old.conn.now tx.new.conn.now (λ t.
+        IfOk result (λ stands. IsTrue stands ↔
+        (charge_at t.charges charge.now.employer charge.now.month ≡ Some (charge_in charge.now)))) }
+    ensures fault { OfTables S.Store tx.old.conn.now tx.new.conn.now (λ t.
+        AllByRecursion IsKeptCharge t.charges → IfErr result IsOfDisk) }
     ensures leaves { Leaves S.Store tx.old.conn.now tx.new.conn.now result }
 {
     match find_charge(tx, charge.employer, charge.month)? {

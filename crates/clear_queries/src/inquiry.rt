@@ -13,7 +13,7 @@ ghost use Rattle.clear_book.specs.Tables.{Tables};
 ghost use Rattle.clear_schema.specs.Frame.{Leaves};
 ghost use Rattle.clear_schema.specs.Held.{HasTables, StandsFor};
 ghost use Rattle.clear_database.specs.Still.{Holds, IsStill};
-ghost use Rattle.clear_debts.specs.Reads.{LeavesOpen};
+ghost use Rattle.clear_debts.specs.Reads.{LeavesOpen, OfTables};
 ghost use Rattle.clear_reading.specs.Reader.{TellsDocument, TellsOnlyWhere};
 ghost use Rattle.clear_queries.specs.Findings.{HasRightRows, IsTellable, IsTold, Replies};
 ghost use Rattle.clear_queries.specs.Inquiries.{FailsToTell, Refuses, Tells};
@@ -93,37 +93,30 @@ pub fn inquire<S: Alter>(
     requires { conn.old.in_transaction ≡ false }
     ensures mode { conn.new.in_transaction ≡ false }
     ensures clean { HasCleanDisk (state S.Store conn.new) → HasCleanDisk (state S.Store conn.old) }
-    ensures told { HasCleanDisk (state S.Store conn.new)
-        → (t : Tables) → HasTables t (state S.Store conn.old).now
-        → IfOk result (λ answer. ((caller : Caller) → may_query caller query.now ≡ true
-        → Tells (Ask caller day query.now) t answer)
-        × Holds S.Store conn.new t) }
+    ensures told { OfTables S.Store conn.old conn.new (λ t.
+        IfOk result (λ answer. ((caller : Caller) → may_query caller query.now ≡ true
+        → Tells (Ask caller day query.now) t answer) × Holds S.Store conn.new t)) }
     // A statement, which is the firm's on this day, a list, a run and the lines in suspense are told only
     // where their rows are right, whatever else the tables hold.
-    ensures only { HasCleanDisk (state S.Store conn.new)
-        → (t : Tables) → HasTables t (state S.Store conn.old).now
-        → IfOk result (IsOverRightRows day query.now t) }
-    ensures refused { HasCleanDisk (state S.Store conn.new)
-        → (t : Tables) → HasTables t (state S.Store conn.old).now
-        → IfErr result (λ stop. (why : _) → stop ≡ Stop.Refused why
+    ensures only { OfTables S.Store conn.old conn.new (λ t.
+        IfOk result (IsOverRightRows day query.now t)) }
+    ensures refused { OfTables S.Store conn.old conn.new (λ t.
+        IfErr result (λ stop. (why : _) → stop ≡ Stop.Refused why
         → ((caller : Caller) → may_query caller query.now ≡ true
         → Refuses (Ask caller day query.now) t why)
-        × Survives (state S.Store conn.old) (state S.Store conn.new) (λ _. ⊥)) }
-    ensures failed { HasCleanDisk (state S.Store conn.new)
-        → (t : Tables) → HasTables t (state S.Store conn.old).now
-        → IfErr result (λ stop. (fault : _) → stop ≡ Stop.Fault fault → FailsToTell t fault) }
+        × Survives (state S.Store conn.old) (state S.Store conn.new) (λ _. ⊥))) }
+    ensures failed { OfTables S.Store conn.old conn.new (λ t.
+        IfErr result (λ stop. (fault : _) → stop ≡ Stop.Fault fault → FailsToTell t fault)) }
     ensures open { HasCleanDisk (state S.Store conn.new)
         → OnOk result (IsTrue (state S.Store conn.new).is_open) }
-    ensures stays { HasCleanDisk (state S.Store conn.new)
-        → (t : Tables) → HasTables t (state S.Store conn.old).now
-        → IsTrue (state S.Store conn.new).is_open
+    ensures stays { OfTables S.Store conn.old conn.new (λ t.
+        IsTrue (state S.Store conn.new).is_open
         → OnErr result (HasTables t (state S.Store conn.new).now
-        × HasTables t (state S.Store conn.new).committed) }
+        × HasTables t (state S.Store conn.new).committed)) }
     // A crash leaves what it could leave before, or the tables.
-    ensures crash { HasCleanDisk (state S.Store conn.new)
-        → (t : Tables) → HasTables t (state S.Store conn.old).now
-        → (trees : Trees) → (state S.Store conn.new).may_leave trees
-        → (state S.Store conn.old).may_leave trees ⊎ StandsFor t trees }
+    ensures crash { OfTables S.Store conn.old conn.new (λ t.
+        (trees : Trees) → (state S.Store conn.new).may_leave trees
+        → (state S.Store conn.old).may_leave trees ⊎ StandsFor t trees) }
 {
     // For what it says of an open connection outside of a transaction.
     let _outside = conn.is_autocommit();
@@ -143,23 +136,19 @@ fn tell_document<S: Alter>(
     requires { conn.old.in_transaction ≡ false }
     ensures mode { conn.new.in_transaction ≡ false }
     ensures clean { HasCleanDisk (state S.Store conn.new) → HasCleanDisk (state S.Store conn.old) }
-    ensures told { HasCleanDisk (state S.Store conn.new)
-        → (t : Tables) → HasTables t (state S.Store conn.old).now
-        → IfOk result (λ answer. answer ≡ answer_of t (Finding.Document document.now)) }
-    ensures only { HasCleanDisk (state S.Store conn.new)
-        → (t : Tables) → HasTables t (state S.Store conn.old).now
-        → OnOk result (HasRightRows document.now t) }
+    ensures told { OfTables S.Store conn.old conn.new (λ t.
+        IfOk result (λ answer. answer ≡ answer_of t (Finding.Document document.now))) }
+    ensures only { OfTables S.Store conn.old conn.new (λ t.
+        OnOk result (HasRightRows document.now t)) }
     ensures fault { IfErr result (λ stop. (fault : Fault) × (stop ≡ Stop.Fault fault)) }
-    ensures failed { HasCleanDisk (state S.Store conn.new)
-        → (t : Tables) → HasTables t (state S.Store conn.old).now
-        → IsTold (Finding.Document document.now) t
-        → IfErr result (λ stop. (fault : _) → stop ≡ Stop.Fault fault → FailsToTell t fault) }
+    ensures failed { OfTables S.Store conn.old conn.new (λ t.
+        IsTold (Finding.Document document.now) t → IfErr result (λ stop. (fault : _)
+        → stop ≡ Stop.Fault fault → FailsToTell t fault)) }
     ensures open { HasCleanDisk (state S.Store conn.new)
         → OnOk result (IsTrue (state S.Store conn.new).is_open) }
-    ensures still { HasCleanDisk (state S.Store conn.new)
-        → (t : Tables) → HasTables t (state S.Store conn.old).now
-        → IsTrue (state S.Store conn.new).is_open
-        → IsStill (state S.Store conn.old) (state S.Store conn.new) }
+    ensures still { OfTables S.Store conn.old conn.new (λ t.
+        IsTrue (state S.Store conn.new).is_open
+        → IsStill (state S.Store conn.old) (state S.Store conn.new)) }
     ensures survives { (t : Tables) → HasTables t (state S.Store conn.old).now
         → Survives (state S.Store conn.old) (state S.Store conn.new) (λ _. ⊥) }
 {
@@ -227,9 +216,8 @@ fn tell<S: Alter>(
     query: &Query,
 ) -> Result<Finding, Stop<Rule>>
     ensures same_reference { tx.new.conn.ghost_name ≡ tx.old.conn.ghost_name }
-    ensures told { HasCleanDisk (state S.Store tx.new.conn.now)
-        → (t : Tables) → HasTables t (state S.Store tx.old.conn.now).now
-        → day_back t.day day ≡ None → Replies day query.now t result }
+    ensures told { OfTables S.Store tx.old.conn.now tx.new.conn.now (λ t.
+        day_back t.day day ≡ None → Replies day query.now t result) }
     ensures leaves { LeavesOpen S.Store tx.old.conn.now tx.new.conn.now result }
 {
     match query {
@@ -250,9 +238,8 @@ fn tell_owed<S: Alter>(
     employer: EmployerNo,
 ) -> Result<Finding, Stop<Rule>>
     ensures same_reference { tx.new.conn.ghost_name ≡ tx.old.conn.ghost_name }
-    ensures told { HasCleanDisk (state S.Store tx.new.conn.now)
-        → (t : Tables) → HasTables t (state S.Store tx.old.conn.now).now
-        → Replies day (Query.Owed employer) t result }
+    ensures told { OfTables S.Store tx.old.conn.now tx.new.conn.now (λ t.
+        Replies day (Query.Owed employer) t result) }
     ensures leaves { Leaves S.Store tx.old.conn.now tx.new.conn.now result }
 {
     if find_member(tx, employer)?.is_none() {
@@ -270,9 +257,8 @@ fn look_for_firm<S: Alter>(
     employer: EmployerNo,
 ) -> Result<Finding, Stop<Rule>>
     ensures same_reference { tx.new.conn.ghost_name ≡ tx.old.conn.ghost_name }
-    ensures told { HasCleanDisk (state S.Store tx.new.conn.now)
-        → (t : Tables) → HasTables t (state S.Store tx.old.conn.now).now
-        → day_back t.day day ≡ None → Replies day (Query.Statement employer) t result }
+    ensures told { OfTables S.Store tx.old.conn.now tx.new.conn.now (λ t.
+        day_back t.day day ≡ None → Replies day (Query.Statement employer) t result) }
     ensures leaves { Leaves S.Store tx.old.conn.now tx.new.conn.now result }
 {
     match firm_head(alloc, tx, day, employer)? {
@@ -289,9 +275,8 @@ fn tell_worker<S: Alter>(
     worker: WorkerNo,
 ) -> Result<Finding, Stop<Rule>>
     ensures same_reference { tx.new.conn.ghost_name ≡ tx.old.conn.ghost_name }
-    ensures told { HasCleanDisk (state S.Store tx.new.conn.now)
-        → (t : Tables) → HasTables t (state S.Store tx.old.conn.now).now
-        → Replies day (Query.Worker worker) t result }
+    ensures told { OfTables S.Store tx.old.conn.now tx.new.conn.now (λ t.
+        Replies day (Query.Worker worker) t result) }
     ensures leaves { Leaves S.Store tx.old.conn.now tx.new.conn.now result }
 {
     let records = worker_records(tx, worker)?;
@@ -302,9 +287,8 @@ fn tell_worker<S: Alter>(
 // The payout list of a number.
 fn look_for_list<S: Alter>(tx: &mut Transaction<'_, S>, list: ListNo) -> Result<Finding, Stop<Rule>>
     ensures same_reference { tx.new.conn.ghost_name ≡ tx.old.conn.ghost_name }
-    ensures told { HasCleanDisk (state S.Store tx.new.conn.now)
-        → (t : Tables) → HasTables t (state S.Store tx.old.conn.now).now
-        → (day : ℕ) → Replies day (Query.Payout list) t result }
+    ensures told { OfTables S.Store tx.old.conn.now tx.new.conn.now (λ t.
+        (day : ℕ) → Replies day (Query.Payout list) t result) }
     ensures leaves { Leaves S.Store tx.old.conn.now tx.new.conn.now result }
 {
     match find_list(tx, list)? {
@@ -316,9 +300,8 @@ fn look_for_list<S: Alter>(tx: &mut Transaction<'_, S>, list: ListNo) -> Result<
 // The reminder run of a number.
 fn look_for_run<S: Alter>(tx: &mut Transaction<'_, S>, run: RunNo) -> Result<Finding, Stop<Rule>>
     ensures same_reference { tx.new.conn.ghost_name ≡ tx.old.conn.ghost_name }
-    ensures told { HasCleanDisk (state S.Store tx.new.conn.now)
-        → (t : Tables) → HasTables t (state S.Store tx.old.conn.now).now
-        → (day : ℕ) → Replies day (Query.Reminder run) t result }
+    ensures told { OfTables S.Store tx.old.conn.now tx.new.conn.now (λ t.
+        (day : ℕ) → Replies day (Query.Reminder run) t result) }
     ensures leaves { Leaves S.Store tx.old.conn.now tx.new.conn.now result }
 {
     match find_run(tx, run)? {

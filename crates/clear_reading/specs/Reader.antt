@@ -12,6 +12,7 @@ use Rattle.clear_columns.specs.Reading.{HasToGive}
 use Rattle.clear_schema.specs.Faults.{IsOfDisk}
 use Rattle.clear_schema.specs.Held.{HasTables}
 use Rattle.clear_schema.specs.declared.fault.Fault.{Fault}
+use Rattle.clear_debts.specs.Reads.{OfTables}
 
 -- the result is what is told of the rows that were to come, or it was refused: where the rows are
 -- right, for no fault of a key or of a row
@@ -45,14 +46,10 @@ AreAddable P amount = AreRightIn P (λ rows. sum_by amount rows < 2 ^ 64)
 -- leaves no more than before, as far as that is known
 pub record TellsTablesWhere {S A : Type 0} (IsKnown : Type 0) (g : Ghosts S) (old new : Held S)
     (told : Tables → A) (AreRight : Tables → Type 0) (result : Result A Fault) : Type 0 where
-  pub written : HasCleanDisk (state g new) → (t : Tables) → HasTables t (state g old).now
-      → IfOk result (λ it. it ≡ told t)
-  pub cause : HasCleanDisk (state g new) → (t : Tables) → HasTables t (state g old).now
-      → AreInRange t → AreRight t → IfErr result IsOfDisk
-  pub same : HasCleanDisk (state g new) → (t : Tables) → HasTables t (state g old).now
-      → OnOk result (IsUnchanged (state g old) (state g new))
-  pub kept : HasCleanDisk (state g new) → (t : Tables) → HasTables t (state g old).now
-      → KeepsCommit (state g old) (state g new)
+  pub written : OfTables g old new (λ t. IfOk result (λ it. it ≡ told t))
+  pub cause : OfTables g old new (λ t. AreInRange t → AreRight t → IfErr result IsOfDisk)
+  pub same : OfTables g old new (λ t. OnOk result (IsUnchanged (state g old) (state g new)))
+  pub kept : OfTables g old new (λ t. KeepsCommit (state g old) (state g new))
   pub survives : IsKnown → (t : Tables) → HasTables t (state g old).now
       → Survives (state g old) (state g new) (λ _. ⊥)
   pub clean : HasCleanDisk (state g new) → HasCleanDisk (state g old)
@@ -61,8 +58,7 @@ pub record TellsTablesWhere {S A : Type 0} (IsKnown : Type 0) (g : Ghosts S) (ol
 -- something is told of the tables that the connection has only where they are right
 pub record TellsOnlyWhere {S A : Type 0} (g : Ghosts S) (old new : Held S)
     (AreRight : Tables → Type 0) (result : Result A Fault) : Type 0 where
-  pub right : HasCleanDisk (state g new) → (t : Tables) → HasTables t (state g old).now
-      → OnOk result (AreRight t)
+  pub right : OfTables g old new (λ t. OnOk result (AreRight t))
 
 -- a document, which one query tells, so that what a crash leaves is always known
 abbrev pub TellsDocument : {S : Type 0} → Ghosts S → Held S → Held S → (Tables → List ℕ)

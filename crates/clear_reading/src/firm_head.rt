@@ -1,17 +1,14 @@
 //! What a firm's statement tells, but for the pieces that pay its charges.
 ghost use Rattle.std.specs.Prelude.{◌≡◌, ℕ, IfErr, IfOk, IfSome, None};
-ghost use Rattle.sqlite.specs.Held.{state};
-ghost use Rattle.sqlite.specs.State.{HasCleanDisk};
 ghost use Rattle.clear_book.specs.Allocated.{StandsWeighed};
 ghost use Rattle.clear_book.specs.Book.{Book};
 ghost use Rattle.clear_book.specs.Judge.{day_back};
 ghost use Rattle.clear_book.specs.Machine.{IsLawful};
-ghost use Rattle.clear_book.specs.Tables.{Tables};
 ghost use Rattle.clear_schema.specs.Frame.{Leaves};
 ghost use Rattle.clear_schema.specs.Faults.{IsOfDisk};
-ghost use Rattle.clear_schema.specs.Held.{HasTables};
 ghost use Rattle.clear_records.specs.Records.{AreStatementRecords, IsFor, IsHead};
 ghost use Rattle.clear_reading.specs.FirmHead.{AreRead, IsFound};
+ghost use Rattle.clear_debts.specs.Reads.{OfTables};
 
 use clear_bank::lines::Purpose;
 use clear_book::rows::EmployerRow;
@@ -40,19 +37,16 @@ pub fn firm_head<S: Alter>(
     employer: EmployerNo,
 ) -> Result<Option<StatementHead>, Fault>
     ensures same_reference { tx.new.conn.ghost_name ≡ tx.old.conn.ghost_name }
-    ensures head { HasCleanDisk (state S.Store tx.new.conn.now)
-        → (t : Tables) → HasTables t (state S.Store tx.old.conn.now).now
-        → day_back t.day day ≡ None → (b : Book) → IsLawful b → StandsWeighed b t
-        → IfOk result (IsFound b employer (IsHead b employer day)) }
+    ensures head { OfTables S.Store tx.old.conn.now tx.new.conn.now (λ t.
+        day_back t.day day ≡ None → (b : Book) → IsLawful b → StandsWeighed b t
+        → IfOk result (IsFound b employer (IsHead b employer day))) }
     // Whatever else the tables hold.
-    ensures firm { HasCleanDisk (state S.Store tx.new.conn.now)
-        → (t : Tables) → HasTables t (state S.Store tx.old.conn.now).now
-        → IfOk result (λ head. IfSome head (IsFor employer day)) }
+    ensures firm { OfTables S.Store tx.old.conn.now tx.new.conn.now (λ t.
+        IfOk result (λ head. IfSome head (IsFor employer day))) }
     // On a day that isn't before the ledger day, as it is judged to be before.
-    ensures fault { HasCleanDisk (state S.Store tx.new.conn.now)
-        → (t : Tables) → HasTables t (state S.Store tx.old.conn.now).now
-        → day_back t.day day ≡ None → (b : Book) → IsLawful b → StandsWeighed b t
-        → IfErr result IsOfDisk }
+    ensures fault { OfTables S.Store tx.old.conn.now tx.new.conn.now (λ t.
+        day_back t.day day ≡ None → (b : Book) → IsLawful b → StandsWeighed b t
+        → IfErr result IsOfDisk) }
     ensures leaves { Leaves S.Store tx.old.conn.now tx.new.conn.now result }
 {
     match find_records(alloc, tx, employer)? {
@@ -69,16 +63,13 @@ fn find_records<S: Alter>(
     employer: EmployerNo,
 ) -> Result<Option<StatementRecords>, Fault>
     ensures same_reference { tx.new.conn.ghost_name ≡ tx.old.conn.ghost_name }
-    ensures records { HasCleanDisk (state S.Store tx.new.conn.now)
-        → (t : Tables) → HasTables t (state S.Store tx.old.conn.now).now
-        → (day : ℕ) → day_back t.day day ≡ None → (b : Book) → IsLawful b → StandsWeighed b t
-        → IfOk result (IsFound b employer (AreStatementRecords b employer day)) }
-    ensures firm { HasCleanDisk (state S.Store tx.new.conn.now)
-        → (t : Tables) → HasTables t (state S.Store tx.old.conn.now).now
-        → IfOk result (λ found. IfSome found (λ records. records.member.employer ≡ employer)) }
-    ensures fault { HasCleanDisk (state S.Store tx.new.conn.now)
-        → (t : Tables) → HasTables t (state S.Store tx.old.conn.now).now
-        → (b : Book) → IsLawful b → StandsWeighed b t → IfErr result IsOfDisk }
+    ensures records { OfTables S.Store tx.old.conn.now tx.new.conn.now (λ t.
+        (day : ℕ) → day_back t.day day ≡ None → (b : Book) → IsLawful b → StandsWeighed b t
+        → IfOk result (IsFound b employer (AreStatementRecords b employer day))) }
+    ensures firm { OfTables S.Store tx.old.conn.now tx.new.conn.now (λ t.
+        IfOk result (λ found. IfSome found (λ records. records.member.employer ≡ employer))) }
+    ensures fault { OfTables S.Store tx.old.conn.now tx.new.conn.now (λ t.
+        (b : Book) → IsLawful b → StandsWeighed b t → IfErr result IsOfDisk) }
     ensures leaves { Leaves S.Store tx.old.conn.now tx.new.conn.now result }
 {
     let Some(member) = find_employer(tx, employer)? else {
@@ -95,13 +86,11 @@ fn read_records<S: Alter>(
     member: EmployerRow,
 ) -> Result<StatementRecords, Fault>
     ensures same_reference { tx.new.conn.ghost_name ≡ tx.old.conn.ghost_name }
-    ensures read { HasCleanDisk (state S.Store tx.new.conn.now)
-        → (t : Tables) → HasTables t (state S.Store tx.old.conn.now).now
-        → (b : Book) → IsLawful b → StandsWeighed b t → IfOk result (AreRead b t member) }
+    ensures read { OfTables S.Store tx.old.conn.now tx.new.conn.now (λ t.
+        (b : Book) → IsLawful b → StandsWeighed b t → IfOk result (AreRead b t member)) }
     ensures member { IfOk result (λ records. records.member ≡ member) }
-    ensures fault { HasCleanDisk (state S.Store tx.new.conn.now)
-        → (t : Tables) → HasTables t (state S.Store tx.old.conn.now).now
-        → (b : Book) → IsLawful b → StandsWeighed b t → IfErr result IsOfDisk }
+    ensures fault { OfTables S.Store tx.old.conn.now tx.new.conn.now (λ t.
+        (b : Book) → IsLawful b → StandsWeighed b t → IfErr result IsOfDisk) }
     ensures leaves { Leaves S.Store tx.old.conn.now tx.new.conn.now result }
 {
     let rates = rate_table(tx)?;

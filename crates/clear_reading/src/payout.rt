@@ -1,21 +1,19 @@
 //! What a payout list is judged by.
 ghost use Rattle.std.specs.Prelude.{◌≡◌, ◌≤◌, ◌<◌, ◌+◌, ◌^◌, filter, length, sum_by};
 ghost use Rattle.std.specs.Prelude.{IfErr, IfOk, IfSome, IsSome};
-ghost use Rattle.sqlite.specs.Held.{state};
-ghost use Rattle.sqlite.specs.State.{HasCleanDisk};
 ghost use Rattle.clear_values.specs.Limits.{most_entries};
 ghost use Rattle.clear_values.specs.RowRanges.{AreInRange};
 ghost use Rattle.clear_book.specs.Book.{Book};
 ghost use Rattle.clear_book.specs.Machine.{IsLawful};
-ghost use Rattle.clear_book.specs.Tables.{Stands, Tables};
+ghost use Rattle.clear_book.specs.Tables.{Stands};
 ghost use Rattle.clear_book.specs.Workers.{is_payable, paid_out};
 ghost use Rattle.clear_rules.specs.Views.PayoutList.{IsPayoutView};
 ghost use Rattle.clear_schema.specs.Frame.{Leaves};
 ghost use Rattle.clear_schema.specs.Faults.{IsOfDisk};
-ghost use Rattle.clear_schema.specs.Held.{HasTables};
 ghost use Rattle.clear_schema.specs.Values.{counts_of};
 ghost use Rattle.clear_reading.specs.Payout.{AreAmong, AreSince, IsViewOf, day_of_list};
 ghost use Rattle.clear_reading.specs.Payout.{released_since};
+ghost use Rattle.clear_debts.specs.Reads.{OfTables};
 
 use clear_money::days::Day;
 use clear_payouts::claims::claims_released_since;
@@ -41,23 +39,19 @@ pub fn payout_view<S: Alter>(
 ) -> Result<PayoutView, Fault>
     ensures same_reference { tx.new.conn.ghost_name ≡ tx.old.conn.ghost_name }
     // Each is a claim of the table, and none stands twice.
-    ensures claims { HasCleanDisk (state S.Store tx.new.conn.now)
-        → (t : Tables) → HasTables t (state S.Store tx.old.conn.now).now
-        → IfOk result (λ view. AreAmong view.payable.items t.claims) }
-    ensures view { HasCleanDisk (state S.Store tx.new.conn.now)
-        → (t : Tables) → HasTables t (state S.Store tx.old.conn.now).now
-        → counts.now ≡ counts_of t → (b : Book) → IsLawful b → Stands b t
-        → IfOk result (IsPayoutView b) }
+    ensures claims { OfTables S.Store tx.old.conn.now tx.new.conn.now (λ t.
+        IfOk result (λ view. AreAmong view.payable.items t.claims)) }
+    ensures view { OfTables S.Store tx.old.conn.now tx.new.conn.now (λ t.
+        counts.now ≡ counts_of t → (b : Book) → IsLawful b → Stands b t
+        → IfOk result (IsPayoutView b)) }
     // Whatever the tables hold, it is of the claims released on the last list's day or later.
-    ensures since { HasCleanDisk (state S.Store tx.new.conn.now)
-        → (t : Tables) → HasTables t (state S.Store tx.old.conn.now).now
-        → 0 < counts.now.lists
-        → IfOk result (IsViewOf (released_since (day_of_list t.lists counts.now.lists) t.claims)
-        (counts.now.lists + 1)) }
-    ensures fault { HasCleanDisk (state S.Store tx.new.conn.now)
-        → (t : Tables) → HasTables t (state S.Store tx.old.conn.now).now
-        → counts.now ≡ counts_of t → (b : Book) → IsLawful b → Stands b t
-        → IfErr result IsOfDisk }
+    ensures since { OfTables S.Store tx.old.conn.now tx.new.conn.now (λ t.
+        0 < counts.now.lists
+        → IfOk result
+        (IsViewOf (released_since (day_of_list t.lists counts.now.lists) t.claims)
+        (counts.now.lists + 1))) }
+    ensures fault { OfTables S.Store tx.old.conn.now tx.new.conn.now (λ t.
+        counts.now ≡ counts_of t → (b : Book) → IsLawful b → Stands b t → IfErr result IsOfDisk) }
     ensures leaves { Leaves S.Store tx.old.conn.now tx.new.conn.now result }
 {
     let Some(next) = ListNo::new(u64::from(counts.lists) + 1) else {
@@ -77,18 +71,14 @@ fn payable_after<S: Alter>(
     next: ListNo,
 ) -> Result<PayoutView, Fault>
     ensures same_reference { tx.new.conn.ghost_name ≡ tx.old.conn.ghost_name }
-    ensures claims { HasCleanDisk (state S.Store tx.new.conn.now)
-        → (t : Tables) → HasTables t (state S.Store tx.old.conn.now).now
-        → IfOk result (λ view. AreAmong view.payable.items t.claims) }
-    ensures view { HasCleanDisk (state S.Store tx.new.conn.now)
-        → (t : Tables) → HasTables t (state S.Store tx.old.conn.now).now
-        → AreSince (day_of_list t.lists last) t.claims → IfOk result (IsViewOf t.claims next) }
-    ensures since { HasCleanDisk (state S.Store tx.new.conn.now)
-        → (t : Tables) → HasTables t (state S.Store tx.old.conn.now).now
-        → IfOk result (IsViewOf (released_since (day_of_list t.lists last) t.claims) next) }
-    ensures fault { HasCleanDisk (state S.Store tx.new.conn.now)
-        → (t : Tables) → HasTables t (state S.Store tx.old.conn.now).now
-        → AreInRange t → length t.claims ≤ most_entries → IfErr result IsOfDisk }
+    ensures claims { OfTables S.Store tx.old.conn.now tx.new.conn.now (λ t.
+        IfOk result (λ view. AreAmong view.payable.items t.claims)) }
+    ensures view { OfTables S.Store tx.old.conn.now tx.new.conn.now (λ t.
+        AreSince (day_of_list t.lists last) t.claims → IfOk result (IsViewOf t.claims next)) }
+    ensures since { OfTables S.Store tx.old.conn.now tx.new.conn.now (λ t.
+        IfOk result (IsViewOf (released_since (day_of_list t.lists last) t.claims) next)) }
+    ensures fault { OfTables S.Store tx.old.conn.now tx.new.conn.now (λ t.
+        AreInRange t → length t.claims ≤ most_entries → IfErr result IsOfDisk) }
     ensures leaves { Leaves S.Store tx.old.conn.now tx.new.conn.now result }
 {
     match find_list(tx, last)? {
@@ -105,18 +95,14 @@ fn payable_since<S: Alter>(
     next: ListNo,
 ) -> Result<PayoutView, Fault>
     ensures same_reference { tx.new.conn.ghost_name ≡ tx.old.conn.ghost_name }
-    ensures claims { HasCleanDisk (state S.Store tx.new.conn.now)
-        → (t : Tables) → HasTables t (state S.Store tx.old.conn.now).now
-        → IfOk result (λ view. AreAmong view.payable.items t.claims) }
-    ensures view { HasCleanDisk (state S.Store tx.new.conn.now)
-        → (t : Tables) → HasTables t (state S.Store tx.old.conn.now).now
-        → AreSince since t.claims → IfOk result (IsViewOf t.claims next) }
-    ensures since { HasCleanDisk (state S.Store tx.new.conn.now)
-        → (t : Tables) → HasTables t (state S.Store tx.old.conn.now).now
-        → IfOk result (IsViewOf (released_since since t.claims) next) }
-    ensures fault { HasCleanDisk (state S.Store tx.new.conn.now)
-        → (t : Tables) → HasTables t (state S.Store tx.old.conn.now).now
-        → AreInRange t → length t.claims ≤ most_entries → IfErr result IsOfDisk }
+    ensures claims { OfTables S.Store tx.old.conn.now tx.new.conn.now (λ t.
+        IfOk result (λ view. AreAmong view.payable.items t.claims)) }
+    ensures view { OfTables S.Store tx.old.conn.now tx.new.conn.now (λ t.
+        AreSince since t.claims → IfOk result (IsViewOf t.claims next)) }
+    ensures since { OfTables S.Store tx.old.conn.now tx.new.conn.now (λ t.
+        IfOk result (IsViewOf (released_since since t.claims) next)) }
+    ensures fault { OfTables S.Store tx.old.conn.now tx.new.conn.now (λ t.
+        AreInRange t → length t.claims ≤ most_entries → IfErr result IsOfDisk) }
     ensures leaves { Leaves S.Store tx.old.conn.now tx.new.conn.now result }
 {
     let rows = claims_released_since(tx, since)?;

@@ -1,22 +1,19 @@
 //! What a reminder run is judged by.
 ghost use Rattle.std.specs.Prelude.{◌≡◌, IfErr, IfOk, None, map};
 ghost use Rattle.std.specs.Option.{option_map};
-ghost use Rattle.sqlite.specs.Held.{state};
-ghost use Rattle.sqlite.specs.State.{HasCleanDisk};
 ghost use Rattle.clear_book.specs.Allocated.{StandsWeighed};
 ghost use Rattle.clear_book.specs.Book.{Book, rates_of};
 ghost use Rattle.clear_book.specs.Judge.{day_back};
 ghost use Rattle.clear_book.specs.Machine.{IsLawful};
 ghost use Rattle.clear_book.specs.Reminders.{as_last, last_among};
 ghost use Rattle.clear_book.specs.RowRanges.{AreInRange};
-ghost use Rattle.clear_book.specs.Tables.{Tables};
 ghost use Rattle.clear_book.specs.Workers.{employers_of};
 ghost use Rattle.clear_rules.specs.Views.RemindRun.{IsRemindView, firm_on_day, last_viewed};
 ghost use Rattle.clear_schema.specs.Frame.{Leaves};
 ghost use Rattle.clear_schema.specs.Faults.{IsOfDisk};
-ghost use Rattle.clear_schema.specs.Held.{HasTables};
 ghost use Rattle.clear_schema.specs.Values.{counts_of};
 ghost use Rattle.clear_debts.specs.Overdue.{IsFirm};
+ghost use Rattle.clear_debts.specs.Reads.{OfTables};
 
 use clear_book::numbers::RunNo;
 use clear_book::rows::{EmployerRow, ReminderRow};
@@ -51,14 +48,12 @@ pub fn remind_view<S: Alter>(
     day: Day,
 ) -> Result<RemindView, Fault>
     ensures same_reference { tx.new.conn.ghost_name ≡ tx.old.conn.ghost_name }
-    ensures view { HasCleanDisk (state S.Store tx.new.conn.now)
-        → (t : Tables) → HasTables t (state S.Store tx.old.conn.now).now
-        → counts.now ≡ counts_of t → day_back t.day day ≡ None
-        → (b : Book) → IsLawful b → StandsWeighed b t → IfOk result (IsRemindView b day) }
-    ensures fault { HasCleanDisk (state S.Store tx.new.conn.now)
-        → (t : Tables) → HasTables t (state S.Store tx.old.conn.now).now
-        → counts.now ≡ counts_of t
-        → (b : Book) → IsLawful b → StandsWeighed b t → IfErr result IsOfDisk }
+    ensures view { OfTables S.Store tx.old.conn.now tx.new.conn.now (λ t.
+        counts.now ≡ counts_of t → day_back t.day day ≡ None → (b : Book) → IsLawful b
+        → StandsWeighed b t → IfOk result (IsRemindView b day)) }
+    ensures fault { OfTables S.Store tx.old.conn.now tx.new.conn.now (λ t.
+        counts.now ≡ counts_of t → (b : Book) → IsLawful b → StandsWeighed b t
+        → IfErr result IsOfDisk) }
     ensures leaves { Leaves S.Store tx.old.conn.now tx.new.conn.now result }
 {
     let Some(next) = RunNo::new(u64::from(counts.runs) + 1) else {
@@ -78,14 +73,12 @@ fn overdue_firms<S: Alter>(
     day: Day,
 ) -> Result<Vec<OverdueFirm>, Fault>
     ensures same_reference { tx.new.conn.ghost_name ≡ tx.old.conn.ghost_name }
-    ensures firms { HasCleanDisk (state S.Store tx.new.conn.now)
-        → (t : Tables) → HasTables t (state S.Store tx.old.conn.now).now
-        → day_back t.day day ≡ None → (b : Book) → IsLawful b → StandsWeighed b t
+    ensures firms { OfTables S.Store tx.old.conn.now tx.new.conn.now (λ t.
+        day_back t.day day ≡ None → (b : Book) → IsLawful b → StandsWeighed b t
         → rates.now ≡ rates_of b
-        → IfOk result (λ firms. firms.items ≡ map (firm_on_day b day) (employers_of b.entries)) }
-    ensures fault { HasCleanDisk (state S.Store tx.new.conn.now)
-        → (t : Tables) → HasTables t (state S.Store tx.old.conn.now).now
-        → (b : Book) → IsLawful b → StandsWeighed b t → IfErr result IsOfDisk }
+        → IfOk result (λ firms. firms.items ≡ map (firm_on_day b day) (employers_of b.entries))) }
+    ensures fault { OfTables S.Store tx.old.conn.now tx.new.conn.now (λ t.
+        (b : Book) → IsLawful b → StandsWeighed b t → IfErr result IsOfDisk) }
     ensures leaves { Leaves S.Store tx.old.conn.now tx.new.conn.now result }
 {
     let members = all_employers(tx)?;
@@ -107,14 +100,12 @@ fn overdue_firm<S: Alter>(
     day: Day,
 ) -> Result<OverdueFirm, Fault>
     ensures same_reference { tx.new.conn.ghost_name ≡ tx.old.conn.ghost_name }
-    ensures firm { HasCleanDisk (state S.Store tx.new.conn.now)
-        → (t : Tables) → HasTables t (state S.Store tx.old.conn.now).now
-        → day_back t.day day ≡ None → (b : Book) → IsLawful b → StandsWeighed b t
+    ensures firm { OfTables S.Store tx.old.conn.now tx.new.conn.now (λ t.
+        day_back t.day day ≡ None → (b : Book) → IsLawful b → StandsWeighed b t
         → rates.now ≡ rates_of b → IsFirm b member.now
-        → IfOk result (λ firm. firm ≡ firm_on_day b day member.now.employer) }
-    ensures fault { HasCleanDisk (state S.Store tx.new.conn.now)
-        → (t : Tables) → HasTables t (state S.Store tx.old.conn.now).now
-        → (b : Book) → IsLawful b → StandsWeighed b t → IfErr result IsOfDisk }
+        → IfOk result (λ firm. firm ≡ firm_on_day b day member.now.employer)) }
+    ensures fault { OfTables S.Store tx.old.conn.now tx.new.conn.now (λ t.
+        (b : Book) → IsLawful b → StandsWeighed b t → IfErr result IsOfDisk) }
     ensures leaves { Leaves S.Store tx.old.conn.now tx.new.conn.now result }
 {
     let overdue = read_overdue(alloc, tx, rates, member, day)?;
@@ -135,13 +126,11 @@ fn read_last<S: Alter>(
     employer: EmployerNo,
 ) -> Result<Option<LastReminder>, Fault>
     ensures same_reference { tx.new.conn.ghost_name ≡ tx.old.conn.ghost_name }
-    ensures last { HasCleanDisk (state S.Store tx.new.conn.now)
-        → (t : Tables) → HasTables t (state S.Store tx.old.conn.now).now
-        → IfOk result (λ last. last
-        ≡ option_map last_viewed (last_among t.runs t.reminders employer)) }
-    ensures fault { HasCleanDisk (state S.Store tx.new.conn.now)
-        → (t : Tables) → HasTables t (state S.Store tx.old.conn.now).now
-        → AreInRange t → IfErr result IsOfDisk }
+    ensures last { OfTables S.Store tx.old.conn.now tx.new.conn.now (λ t.
+        IfOk result (λ last. last
+        ≡ option_map last_viewed (last_among t.runs t.reminders employer))) }
+    ensures fault { OfTables S.Store tx.old.conn.now tx.new.conn.now (λ t.
+        AreInRange t → IfErr result IsOfDisk) }
     ensures leaves { Leaves S.Store tx.old.conn.now tx.new.conn.now result }
 {
     match last_reminder(tx, employer)? {
@@ -156,12 +145,10 @@ fn read_run<S: Alter>(
     row: &ReminderRow,
 ) -> Result<Option<LastReminder>, Fault>
     ensures same_reference { tx.new.conn.ghost_name ≡ tx.old.conn.ghost_name }
-    ensures last { HasCleanDisk (state S.Store tx.new.conn.now)
-        → (t : Tables) → HasTables t (state S.Store tx.old.conn.now).now
-        → IfOk result (λ last. last ≡ option_map last_viewed (as_last t.runs row.now)) }
-    ensures fault { HasCleanDisk (state S.Store tx.new.conn.now)
-        → (t : Tables) → HasTables t (state S.Store tx.old.conn.now).now
-        → AreInRange t → IfErr result IsOfDisk }
+    ensures last { OfTables S.Store tx.old.conn.now tx.new.conn.now (λ t.
+        IfOk result (λ last. last ≡ option_map last_viewed (as_last t.runs row.now))) }
+    ensures fault { OfTables S.Store tx.old.conn.now tx.new.conn.now (λ t.
+        AreInRange t → IfErr result IsOfDisk) }
     ensures leaves { Leaves S.Store tx.old.conn.now tx.new.conn.now result }
 {
     match find_run(tx, row.run)? {

@@ -1,14 +1,12 @@
 //! The records of a worker's document.
 ghost use Rattle.std.specs.Prelude.{◌≡◌, IfErr, IfOk};
-ghost use Rattle.sqlite.specs.Held.{state};
-ghost use Rattle.sqlite.specs.State.{HasCleanDisk};
 ghost use Rattle.clear_book.specs.Book.{Book};
 ghost use Rattle.clear_book.specs.Machine.{IsLawful};
-ghost use Rattle.clear_book.specs.Tables.{Stands, Tables};
+ghost use Rattle.clear_book.specs.Tables.{Stands};
 ghost use Rattle.clear_schema.specs.Frame.{Leaves};
 ghost use Rattle.clear_schema.specs.Faults.{IsOfDisk};
-ghost use Rattle.clear_schema.specs.Held.{HasTables};
 ghost use Rattle.clear_records.specs.Records.{AreWorkerRecords};
+ghost use Rattle.clear_debts.specs.Reads.{OfTables};
 
 use clear_firms::rates::rate_table;
 use clear_firms::wages::worker_wages;
@@ -27,13 +25,10 @@ pub fn worker_records<S: Alter>(
     worker: WorkerNo,
 ) -> Result<WorkerRecords, Fault>
     ensures same_reference { tx.new.conn.ghost_name ≡ tx.old.conn.ghost_name }
-    ensures records { HasCleanDisk (state S.Store tx.new.conn.now)
-        → (t : Tables) → HasTables t (state S.Store tx.old.conn.now).now
-        → (b : Book) → IsLawful b → Stands b t
-        → IfOk result (AreWorkerRecords b worker) }
-    ensures fault { HasCleanDisk (state S.Store tx.new.conn.now)
-        → (t : Tables) → HasTables t (state S.Store tx.old.conn.now).now
-        → (b : Book) → IsLawful b → Stands b t → IfErr result IsOfDisk }
+    ensures records { OfTables S.Store tx.old.conn.now tx.new.conn.now (λ t.
+        (b : Book) → IsLawful b → Stands b t → IfOk result (AreWorkerRecords b worker)) }
+    ensures fault { OfTables S.Store tx.old.conn.now tx.new.conn.now (λ t.
+        (b : Book) → IsLawful b → Stands b t → IfErr result IsOfDisk) }
     ensures leaves { Leaves S.Store tx.old.conn.now tx.new.conn.now result }
 {
     let rates = rate_table(tx)?;

@@ -1,13 +1,10 @@
 //! What new rates are judged by.
 ghost use Rattle.std.specs.Prelude.{◌≡◌, ◌≢◌, [], IfErr, IfOk, OnOk};
-ghost use Rattle.sqlite.specs.Held.{state};
-ghost use Rattle.sqlite.specs.State.{HasCleanDisk};
 ghost use Rattle.clear_money.specs.Rates.{last_first};
 ghost use Rattle.clear_book.specs.RowRanges.{AreInRange};
-ghost use Rattle.clear_book.specs.Tables.{Tables};
 ghost use Rattle.clear_schema.specs.Frame.{Leaves};
 ghost use Rattle.clear_schema.specs.Faults.{IsOfDisk};
-ghost use Rattle.clear_schema.specs.Held.{HasTables};
+ghost use Rattle.clear_debts.specs.Reads.{OfTables};
 
 use clear_book::rules::StoreCause;
 use clear_firms::rates::find_last_rate;
@@ -20,19 +17,15 @@ use sqlite::{Alter, Transaction};
 /// or of a row.
 pub fn add_rate_view<S: Alter>(tx: &mut Transaction<'_, S>) -> Result<Month, Fault>
     ensures same_reference { tx.new.conn.ghost_name ≡ tx.old.conn.ghost_name }
-    ensures last { HasCleanDisk (state S.Store tx.new.conn.now)
-        → (t : Tables) → HasTables t (state S.Store tx.old.conn.now).now
-        → IfOk result (λ month. month ≡ last_first t.rates) }
-    ensures none { HasCleanDisk (state S.Store tx.new.conn.now)
-        → (t : Tables) → HasTables t (state S.Store tx.old.conn.now).now
-        → OnOk result (t.rates ≢ []) }
-    ensures fault { HasCleanDisk (state S.Store tx.new.conn.now)
-        → (t : Tables) → HasTables t (state S.Store tx.old.conn.now).now
-        → AreInRange t → IfErr result IsOfDisk }
+    ensures last { OfTables S.Store tx.old.conn.now tx.new.conn.now (λ t.
+        IfOk result (λ month. month ≡ last_first t.rates)) }
+    ensures none { OfTables S.Store tx.old.conn.now tx.new.conn.now (λ t.
+        OnOk result (t.rates ≢ [])) }
+    ensures fault { OfTables S.Store tx.old.conn.now tx.new.conn.now (λ t.
+        AreInRange t → IfErr result IsOfDisk) }
     // That no row stands is never told as a key that stands.
-    ensures cause { HasCleanDisk (state S.Store tx.new.conn.now)
-        → (t : Tables) → HasTables t (state S.Store tx.old.conn.now).now
-        → IfErr result (λ fault. fault ≢ Fault.Store StoreCause.Constraint) }
+    ensures cause { OfTables S.Store tx.old.conn.now tx.new.conn.now (λ t.
+        IfErr result (λ fault. fault ≢ Fault.Store StoreCause.Constraint)) }
     ensures leaves { Leaves S.Store tx.old.conn.now tx.new.conn.now result }
 {
     match find_last_rate(tx)? {

@@ -1,20 +1,17 @@
 //! What an assignment is judged by.
 ghost use Rattle.std.specs.Prelude.{◌≡◌, ◌&&◌, nat_le, IfErr, IfOk};
-ghost use Rattle.sqlite.specs.Held.{state};
-ghost use Rattle.sqlite.specs.State.{HasCleanDisk};
 ghost use Rattle.clear_book.specs.Book.{Book};
 ghost use Rattle.clear_book.specs.Keyed.{find_row};
 ghost use Rattle.clear_book.specs.Limits.{most_credits};
 ghost use Rattle.clear_book.specs.Lines.{credit_count};
 ghost use Rattle.clear_book.specs.Own.Assign.{is_full, is_suspended};
 ghost use Rattle.clear_book.specs.RowRanges.{AreInRange};
-ghost use Rattle.clear_book.specs.Tables.{Stands, Tables, bank_key};
+ghost use Rattle.clear_book.specs.Tables.{Stands, bank_key};
 ghost use Rattle.clear_rules.specs.Views.Assign.{IsAssignView};
 ghost use Rattle.clear_schema.specs.Frame.{Leaves};
 ghost use Rattle.clear_schema.specs.Faults.{IsOfDisk};
-ghost use Rattle.clear_schema.specs.Held.{HasTables};
 ghost use Rattle.clear_schema.specs.Values.{counts_of};
-ghost use Rattle.clear_debts.specs.Reads.{LeavesOpen};
+ghost use Rattle.clear_debts.specs.Reads.{LeavesOpen, OfTables};
 
 use crate::member::find_member;
 use clear_bank::lines::Purpose;
@@ -44,22 +41,18 @@ pub fn assign_view<S: Alter>(
     assignment: &Assignment,
 ) -> Result<AssignView, Fault>
     ensures same_reference { tx.new.conn.ghost_name ≡ tx.old.conn.ghost_name }
-    ensures line { HasCleanDisk (state S.Store tx.new.conn.now)
-        → (t : Tables) → HasTables t (state S.Store tx.old.conn.now).now
-        → IfOk result (λ view. view.line ≡ find_row bank_key t.bank assignment.now.reference) }
-    ensures view { HasCleanDisk (state S.Store tx.new.conn.now)
-        → (t : Tables) → HasTables t (state S.Store tx.old.conn.now).now
-        → counts.now ≡ counts_of t → (b : Book) → Stands b t
-        → IfOk result (IsAssignView b assignment.now) }
+    ensures line { OfTables S.Store tx.old.conn.now tx.new.conn.now (λ t.
+        IfOk result (λ view. view.line ≡ find_row bank_key t.bank assignment.now.reference)) }
+    ensures view { OfTables S.Store tx.old.conn.now tx.new.conn.now (λ t.
+        counts.now ≡ counts_of t → (b : Book) → Stands b t
+        → IfOk result (IsAssignView b assignment.now)) }
     // While fewer serials were given than a firm may have credits, the firm is never taken for full.
-    ensures full { HasCleanDisk (state S.Store tx.new.conn.now)
-        → (t : Tables) → HasTables t (state S.Store tx.old.conn.now).now
-        → IfOk result (λ view. view.full ≡ (nat_le most_credits counts.now.serial
-        && is_suspended view.line
-        && is_full (credit_count t.credits assignment.now.employer) view.line)) }
-    ensures fault { HasCleanDisk (state S.Store tx.new.conn.now)
-        → (t : Tables) → HasTables t (state S.Store tx.old.conn.now).now
-        → AreInRange t → IfErr result IsOfDisk }
+    ensures full { OfTables S.Store tx.old.conn.now tx.new.conn.now (λ t.
+        IfOk result (λ view. view.full
+        ≡ (nat_le most_credits counts.now.serial && is_suspended view.line
+        && is_full (credit_count t.credits assignment.now.employer) view.line))) }
+    ensures fault { OfTables S.Store tx.old.conn.now tx.new.conn.now (λ t.
+        AreInRange t → IfErr result IsOfDisk) }
     ensures leaves { Leaves S.Store tx.old.conn.now tx.new.conn.now result }
 {
     let registered = find_member(tx, assignment.employer)?.is_some();
@@ -82,13 +75,12 @@ fn is_full<S: Alter>(
     line: &Option<BankRow>,
 ) -> Result<bool, Fault>
     ensures same_reference { tx.new.conn.ghost_name ≡ tx.old.conn.ghost_name }
-    ensures full { HasCleanDisk (state S.Store tx.new.conn.now)
-        → (t : Tables) → HasTables t (state S.Store tx.old.conn.now).now
-        → IfOk result (λ full. full ≡ (nat_le most_credits serials && is_suspended line.now
-        && is_full (credit_count t.credits employer) line.now)) }
-    ensures fault { HasCleanDisk (state S.Store tx.new.conn.now)
-        → (t : Tables) → HasTables t (state S.Store tx.old.conn.now).now
-        → AreInRange t → IfErr result IsOfDisk }
+    ensures full { OfTables S.Store tx.old.conn.now tx.new.conn.now (λ t.
+        IfOk result (λ full. full
+        ≡ (nat_le most_credits serials && is_suspended line.now
+        && is_full (credit_count t.credits employer) line.now))) }
+    ensures fault { OfTables S.Store tx.old.conn.now tx.new.conn.now (λ t.
+        AreInRange t → IfErr result IsOfDisk) }
     ensures leaves { LeavesOpen S.Store tx.old.conn.now tx.new.conn.now result }
 {
     if serials.count() < MAX_CREDITS {
@@ -108,13 +100,10 @@ fn has_all_credits<S: Alter>(
     purpose: Purpose,
 ) -> Result<bool, Fault>
     ensures same_reference { tx.new.conn.ghost_name ≡ tx.old.conn.ghost_name }
-    ensures full { HasCleanDisk (state S.Store tx.new.conn.now)
-        → (t : Tables) → HasTables t (state S.Store tx.old.conn.now).now
-        → IfOk result (λ full.
-        full ≡ nat_le most_credits (credit_count t.credits employer purpose)) }
-    ensures fault { HasCleanDisk (state S.Store tx.new.conn.now)
-        → (t : Tables) → HasTables t (state S.Store tx.old.conn.now).now
-        → AreInRange t → IfErr result IsOfDisk }
+    ensures full { OfTables S.Store tx.old.conn.now tx.new.conn.now (λ t.
+        IfOk result (λ full. full ≡ nat_le most_credits (credit_count t.credits employer purpose))) }
+    ensures fault { OfTables S.Store tx.old.conn.now tx.new.conn.now (λ t.
+        AreInRange t → IfErr result IsOfDisk) }
     ensures leaves { Leaves S.Store tx.old.conn.now tx.new.conn.now result }
 {
     let count = credit_count(tx, employer, purpose)?;

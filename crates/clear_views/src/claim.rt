@@ -1,15 +1,13 @@
 //! What a claim is judged by.
 ghost use Rattle.std.specs.Prelude.{◌≡◌, IfErr, IfOk};
-ghost use Rattle.sqlite.specs.Held.{state};
-ghost use Rattle.sqlite.specs.State.{HasCleanDisk};
 ghost use Rattle.clear_book.specs.Book.{Book};
 ghost use Rattle.clear_book.specs.Machine.{IsLawful};
-ghost use Rattle.clear_book.specs.Tables.{Stands, Tables};
+ghost use Rattle.clear_book.specs.Tables.{Stands};
 ghost use Rattle.clear_rules.specs.Views.Claim.{IsClaimView};
 ghost use Rattle.clear_schema.specs.Frame.{Leaves};
 ghost use Rattle.clear_schema.specs.Faults.{IsOfDisk};
-ghost use Rattle.clear_schema.specs.Held.{HasTables};
 ghost use Rattle.clear_schema.specs.Values.{counts_of};
+ghost use Rattle.clear_debts.specs.Reads.{OfTables};
 
 mod claimed;
 mod earned;
@@ -39,14 +37,11 @@ pub fn claim_view<S: Alter>(
     claim: &HolidayClaim,
 ) -> Result<ClaimView, Fault>
     ensures same_reference { tx.new.conn.ghost_name ≡ tx.old.conn.ghost_name }
-    ensures view { HasCleanDisk (state S.Store tx.new.conn.now)
-        → (t : Tables) → HasTables t (state S.Store tx.old.conn.now).now
-        → counts.now ≡ counts_of t → (b : Book) → IsLawful b → Stands b t
-        → IfOk result (IsClaimView b claim.now) }
-    ensures fault { HasCleanDisk (state S.Store tx.new.conn.now)
-        → (t : Tables) → HasTables t (state S.Store tx.old.conn.now).now
-        → counts.now ≡ counts_of t → (b : Book) → IsLawful b → Stands b t
-        → IfErr result IsOfDisk }
+    ensures view { OfTables S.Store tx.old.conn.now tx.new.conn.now (λ t.
+        counts.now ≡ counts_of t → (b : Book) → IsLawful b → Stands b t
+        → IfOk result (IsClaimView b claim.now)) }
+    ensures fault { OfTables S.Store tx.old.conn.now tx.new.conn.now (λ t.
+        counts.now ≡ counts_of t → (b : Book) → IsLawful b → Stands b t → IfErr result IsOfDisk) }
     ensures leaves { Leaves S.Store tx.old.conn.now tx.new.conn.now result }
 {
     let Some(next) = ClaimNo::new(u64::from(counts.claims) + 1) else {

@@ -1,14 +1,12 @@
 //! What the end of a membership is judged by.
 ghost use Rattle.std.specs.Prelude.{◌≡◌, ◌∷◌, [], IfErr, IfOk};
-ghost use Rattle.sqlite.specs.Held.{state};
-ghost use Rattle.sqlite.specs.State.{HasCleanDisk};
 ghost use Rattle.clear_book.specs.Keyed.{find_row};
 ghost use Rattle.clear_book.specs.RowRanges.{AreInRange};
-ghost use Rattle.clear_book.specs.Tables.{Tables, employer_key};
+ghost use Rattle.clear_book.specs.Tables.{employer_key};
 ghost use Rattle.clear_schema.specs.Frame.{Leaves};
 ghost use Rattle.clear_schema.specs.Faults.{IsOfDisk};
-ghost use Rattle.clear_schema.specs.Held.{HasTables};
 ghost use Rattle.clear_views.specs.Ends.{last_report};
+ghost use Rattle.clear_debts.specs.Reads.{OfTables};
 
 use crate::member::find_member;
 use clear_book::calls::MembershipEnd;
@@ -27,16 +25,13 @@ pub fn end_view<S: Alter>(
     end: &MembershipEnd,
 ) -> Result<EndView, Fault>
     ensures same_reference { tx.new.conn.ghost_name ≡ tx.old.conn.ghost_name }
-    ensures member { HasCleanDisk (state S.Store tx.new.conn.now)
-        → (t : Tables) → HasTables t (state S.Store tx.old.conn.now).now
-        → IfOk result (λ view. view.member
-        ≡ find_row employer_key t.employers (end.now.employer ∷ [])) }
-    ensures reported { HasCleanDisk (state S.Store tx.new.conn.now)
-        → (t : Tables) → HasTables t (state S.Store tx.old.conn.now).now
-        → IfOk result (λ view. view.reported ≡ last_report t end.now.employer) }
-    ensures fault { HasCleanDisk (state S.Store tx.new.conn.now)
-        → (t : Tables) → HasTables t (state S.Store tx.old.conn.now).now
-        → AreInRange t → IfErr result IsOfDisk }
+    ensures member { OfTables S.Store tx.old.conn.now tx.new.conn.now (λ t.
+        IfOk result (λ view. view.member
+        ≡ find_row employer_key t.employers (end.now.employer ∷ []))) }
+    ensures reported { OfTables S.Store tx.old.conn.now tx.new.conn.now (λ t.
+        IfOk result (λ view. view.reported ≡ last_report t end.now.employer)) }
+    ensures fault { OfTables S.Store tx.old.conn.now tx.new.conn.now (λ t.
+        AreInRange t → IfErr result IsOfDisk) }
     ensures leaves { Leaves S.Store tx.old.conn.now tx.new.conn.now result }
 {
     let member = find_member(tx, end.employer)?;
@@ -50,12 +45,10 @@ fn last_month<S: Alter>(
     employer: EmployerNo,
 ) -> Result<Option<Month>, Fault>
     ensures same_reference { tx.new.conn.ghost_name ≡ tx.old.conn.ghost_name }
-    ensures reported { HasCleanDisk (state S.Store tx.new.conn.now)
-        → (t : Tables) → HasTables t (state S.Store tx.old.conn.now).now
-        → IfOk result (λ month. month ≡ last_report t employer) }
-    ensures fault { HasCleanDisk (state S.Store tx.new.conn.now)
-        → (t : Tables) → HasTables t (state S.Store tx.old.conn.now).now
-        → AreInRange t → IfErr result IsOfDisk }
+    ensures reported { OfTables S.Store tx.old.conn.now tx.new.conn.now (λ t.
+        IfOk result (λ month. month ≡ last_report t employer)) }
+    ensures fault { OfTables S.Store tx.old.conn.now tx.new.conn.now (λ t.
+        AreInRange t → IfErr result IsOfDisk) }
     ensures leaves { Leaves S.Store tx.old.conn.now tx.new.conn.now result }
 {
     match find_last_report(tx, employer)? {

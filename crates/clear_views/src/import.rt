@@ -1,18 +1,15 @@
 //! What a bank file is judged by.
 ghost use Rattle.std.specs.Prelude.{◌≡◌, ℕ, [], IfErr, IfOk, List};
-ghost use Rattle.sqlite.specs.Held.{state};
-ghost use Rattle.sqlite.specs.State.{HasCleanDisk};
 ghost use Rattle.clear_book.specs.Book.{Book};
 ghost use Rattle.clear_book.specs.Lines.{lines_in};
 ghost use Rattle.clear_book.specs.Machine.{IsLawful};
 ghost use Rattle.clear_book.specs.RowRanges.{AreInRange};
-ghost use Rattle.clear_book.specs.Tables.{Stands, Tables};
+ghost use Rattle.clear_book.specs.Tables.{Stands};
 ghost use Rattle.clear_rules.specs.Views.ImportBank.{IsImportView};
 ghost use Rattle.clear_schema.specs.Frame.{Leaves};
 ghost use Rattle.clear_schema.specs.Faults.{IsOfDisk};
-ghost use Rattle.clear_schema.specs.Held.{HasTables};
 ghost use Rattle.clear_schema.specs.Values.{counts_of};
-ghost use Rattle.clear_debts.specs.Reads.{Reads};
+ghost use Rattle.clear_debts.specs.Reads.{OfTables, Reads};
 ghost use Rattle.clear_views.specs.Imports.{IsImportRead};
 
 mod each;
@@ -50,18 +47,14 @@ pub fn import_view<S: Alter>(
     lines: &[BankLine],
 ) -> Result<ImportView, Fault>
     ensures same_reference { tx.new.conn.ghost_name ≡ tx.old.conn.ghost_name }
-    ensures view { HasCleanDisk (state S.Store tx.new.conn.now)
-        → (t : Tables) → HasTables t (state S.Store tx.old.conn.now).now
-        → counts.now ≡ counts_of t → (b : Book) → IsLawful b → Stands b t
-        → (file : List ℕ) → lines.now ≡ lines_in file
-        → IfOk result (λ view. IsImportView b file view) }
+    ensures view { OfTables S.Store tx.old.conn.now tx.new.conn.now (λ t.
+        counts.now ≡ counts_of t → (b : Book) → IsLawful b → Stands b t → (file : List ℕ)
+        → lines.now ≡ lines_in file → IfOk result (λ view. IsImportView b file view)) }
     // Whatever the tables hold, the limits are judged by the serials wherever these serve.
-    ensures read { HasCleanDisk (state S.Store tx.new.conn.now)
-        → (t : Tables) → HasTables t (state S.Store tx.old.conn.now).now
-        → IfOk result (IsImportRead t counts.now.serial lines.now) }
-    ensures fault { HasCleanDisk (state S.Store tx.new.conn.now)
-        → (t : Tables) → HasTables t (state S.Store tx.old.conn.now).now
-        → counts.now ≡ counts_of t → AreInRange t → IfErr result IsOfDisk }
+    ensures read { OfTables S.Store tx.old.conn.now tx.new.conn.now (λ t.
+        IfOk result (IsImportRead t counts.now.serial lines.now)) }
+    ensures fault { OfTables S.Store tx.old.conn.now tx.new.conn.now (λ t.
+        counts.now ≡ counts_of t → AreInRange t → IfErr result IsOfDisk) }
     ensures leaves { Leaves S.Store tx.old.conn.now tx.new.conn.now result }
 {
     read_view(alloc, tx, counts.serial, lines)

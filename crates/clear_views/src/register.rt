@@ -1,17 +1,14 @@
 //! What a registration is judged by.
 ghost use Rattle.std.specs.Prelude.{◌≡◌, length, IfErr, IfOk};
-ghost use Rattle.sqlite.specs.Held.{state};
-ghost use Rattle.sqlite.specs.State.{HasCleanDisk};
 ghost use Rattle.clear_book.specs.Book.{Book};
 ghost use Rattle.clear_book.specs.Limits.{most_employers};
 ghost use Rattle.clear_book.specs.RowRanges.{AreInRange};
-ghost use Rattle.clear_book.specs.Tables.{Tables, Stands};
+ghost use Rattle.clear_book.specs.Tables.{Stands};
 ghost use Rattle.clear_schema.specs.Frame.{Leaves};
 ghost use Rattle.clear_schema.specs.Faults.{IsOfDisk};
-ghost use Rattle.clear_schema.specs.Held.{HasTables};
 ghost use Rattle.clear_schema.specs.Values.{counts_of};
 ghost use Rattle.clear_rules.specs.Views.Register.{IsRegisterView};
-ghost use Rattle.clear_debts.specs.Reads.{LeavesOpen};
+ghost use Rattle.clear_debts.specs.Reads.{LeavesOpen, OfTables};
 ghost use Rattle.clear_views.specs.Bounds.{bound_or_count};
 
 use crate::lookups::rate_for;
@@ -35,18 +32,15 @@ pub fn register_view<S: Alter>(
     registration: &Registration,
 ) -> Result<RegisterView, Fault>
     ensures same_reference { tx.new.conn.ghost_name ≡ tx.old.conn.ghost_name }
-    ensures view { HasCleanDisk (state S.Store tx.new.conn.now)
-        → (t : Tables) → HasTables t (state S.Store tx.old.conn.now).now
-        → counts.now ≡ counts_of t → (b : Book) → Stands b t
-        → IfOk result (IsRegisterView b registration.now) }
+    ensures view { OfTables S.Store tx.old.conn.now tx.new.conn.now (λ t.
+        counts.now ≡ counts_of t → (b : Book) → Stands b t
+        → IfOk result (IsRegisterView b registration.now)) }
     // While the entries serve, the limit is judged by their number, not by how many firms there are.
-    ensures count { HasCleanDisk (state S.Store tx.new.conn.now)
-        → (t : Tables) → HasTables t (state S.Store tx.old.conn.now).now
-        → IfOk result (λ view. view.employer_count
-        ≡ bound_or_count counts.now.entries most_employers (length t.employers)) }
-    ensures fault { HasCleanDisk (state S.Store tx.new.conn.now)
-        → (t : Tables) → HasTables t (state S.Store tx.old.conn.now).now
-        → AreInRange t → IfErr result IsOfDisk }
+    ensures count { OfTables S.Store tx.old.conn.now tx.new.conn.now (λ t.
+        IfOk result (λ view. view.employer_count
+        ≡ bound_or_count counts.now.entries most_employers (length t.employers))) }
+    ensures fault { OfTables S.Store tx.old.conn.now tx.new.conn.now (λ t.
+        AreInRange t → IfErr result IsOfDisk) }
     ensures leaves { Leaves S.Store tx.old.conn.now tx.new.conn.now result }
 {
     let registered = find_member(tx, registration.employer)?.is_some();
@@ -63,13 +57,10 @@ pub fn register_view<S: Alter>(
 // there are.
 fn employer_bound<S: Alter>(tx: &mut Transaction<'_, S>, entries: u64) -> Result<u64, Fault>
     ensures same_reference { tx.new.conn.ghost_name ≡ tx.old.conn.ghost_name }
-    ensures count { HasCleanDisk (state S.Store tx.new.conn.now)
-        → (t : Tables) → HasTables t (state S.Store tx.old.conn.now).now
-        → IfOk result (λ count. count
-        ≡ bound_or_count entries most_employers (length t.employers)) }
-    ensures fault { HasCleanDisk (state S.Store tx.new.conn.now)
-        → (t : Tables) → HasTables t (state S.Store tx.old.conn.now).now
-        → AreInRange t → IfErr result IsOfDisk }
+    ensures count { OfTables S.Store tx.old.conn.now tx.new.conn.now (λ t.
+        IfOk result (λ count. count ≡ bound_or_count entries most_employers (length t.employers))) }
+    ensures fault { OfTables S.Store tx.old.conn.now tx.new.conn.now (λ t.
+        AreInRange t → IfErr result IsOfDisk) }
     ensures leaves { LeavesOpen S.Store tx.old.conn.now tx.new.conn.now result }
 {
     if entries < MAX_EMPLOYERS {

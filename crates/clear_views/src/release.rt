@@ -1,8 +1,6 @@
 //! What a release is judged by.
 ghost use Rattle.std.specs.Prelude.{◌≡◌, ◌∷◌, [], None, IfErr, IfOk, IfSome, IsSome};
 ghost use Rattle.std.specs.Option.{option_map};
-ghost use Rattle.sqlite.specs.Held.{state};
-ghost use Rattle.sqlite.specs.State.{HasCleanDisk};
 ghost use Rattle.clear_bank.specs.declared.lines.Purpose.TheVariants.{Contribution};
 ghost use Rattle.clear_book.specs.Allocated.{StandsWeighed};
 ghost use Rattle.clear_book.specs.Book.{Book, member_of};
@@ -13,14 +11,13 @@ ghost use Rattle.clear_book.specs.Lines.{credit_count};
 ghost use Rattle.clear_book.specs.Machine.{IsLawful};
 ghost use Rattle.clear_book.specs.Own.Release.{debts_of};
 ghost use Rattle.clear_book.specs.RowRanges.{AreInRange};
-ghost use Rattle.clear_book.specs.Tables.{Tables, claim_key};
+ghost use Rattle.clear_book.specs.Tables.{claim_key};
 ghost use Rattle.clear_rules.specs.Views.Release.{AreDebts, IsReleaseView};
 ghost use Rattle.clear_schema.specs.Frame.{Leaves};
 ghost use Rattle.clear_schema.specs.Faults.{IsOfDisk};
-ghost use Rattle.clear_schema.specs.Held.{HasTables};
 ghost use Rattle.clear_schema.specs.Values.{counts_of};
 ghost use Rattle.clear_debts.specs.Overdue.{overdue_told};
-ghost use Rattle.clear_debts.specs.Reads.{LeavesOpen};
+ghost use Rattle.clear_debts.specs.Reads.{LeavesOpen, OfTables};
 ghost use Rattle.clear_views.specs.Bounds.{bound_or_count};
 
 use clear_bank::lines::Purpose;
@@ -59,24 +56,20 @@ pub fn release_view<S: Alter>(
     claim: ClaimNo,
 ) -> Result<ReleaseView, Fault>
     ensures same_reference { tx.new.conn.ghost_name ≡ tx.old.conn.ghost_name }
-    ensures claim { HasCleanDisk (state S.Store tx.new.conn.now)
-        → (t : Tables) → HasTables t (state S.Store tx.old.conn.now).now
-        → IfOk result (λ view. option_map (λ found. found.claim) view.found
-        ≡ find_row claim_key t.claims (claim ∷ [])) }
-    ensures view { HasCleanDisk (state S.Store tx.new.conn.now)
-        → (t : Tables) → HasTables t (state S.Store tx.old.conn.now).now
-        → counts.now ≡ counts_of t → day_back t.day day ≡ None
-        → (b : Book) → IsLawful b → StandsWeighed b t
-        → IfOk result (IsReleaseView b day claim) }
+    ensures claim { OfTables S.Store tx.old.conn.now tx.new.conn.now (λ t.
+        IfOk result (λ view. option_map (λ found. found.claim) view.found
+        ≡ find_row claim_key t.claims (claim ∷ []))) }
+    ensures view { OfTables S.Store tx.old.conn.now tx.new.conn.now (λ t.
+        counts.now ≡ counts_of t → day_back t.day day ≡ None → (b : Book) → IsLawful b
+        → StandsWeighed b t → IfOk result (IsReleaseView b day claim)) }
     // While the serials serve, the limit is judged by their number, not by how many credits there are.
-    ensures count { HasCleanDisk (state S.Store tx.new.conn.now)
-        → (t : Tables) → HasTables t (state S.Store tx.old.conn.now).now
-        → IfOk result (λ view. IfSome view.found (λ owing. owing.debts.contribution_count
+    ensures count { OfTables S.Store tx.old.conn.now tx.new.conn.now (λ t.
+        IfOk result (λ view. IfSome view.found
+        (λ owing. owing.debts.contribution_count
         ≡ bound_or_count counts.now.serial most_credits
-        (credit_count t.credits owing.claim.employer Contribution))) }
-    ensures fault { HasCleanDisk (state S.Store tx.new.conn.now)
-        → (t : Tables) → HasTables t (state S.Store tx.old.conn.now).now
-        → (b : Book) → IsLawful b → StandsWeighed b t → IfErr result IsOfDisk }
+        (credit_count t.credits owing.claim.employer Contribution)))) }
+    ensures fault { OfTables S.Store tx.old.conn.now tx.new.conn.now (λ t.
+        (b : Book) → IsLawful b → StandsWeighed b t → IfErr result IsOfDisk) }
     ensures leaves { Leaves S.Store tx.old.conn.now tx.new.conn.now result }
 {
     let serials = counts.serial;
@@ -94,24 +87,20 @@ fn find_owing<S: Alter>(
     claim: ClaimNo,
 ) -> Result<Option<OwingClaim>, Fault>
     ensures same_reference { tx.new.conn.ghost_name ≡ tx.old.conn.ghost_name }
-    ensures claim { HasCleanDisk (state S.Store tx.new.conn.now)
-        → (t : Tables) → HasTables t (state S.Store tx.old.conn.now).now
-        → IfOk result (λ found. option_map (λ owing. owing.claim) found
-        ≡ find_row claim_key t.claims (claim ∷ [])) }
-    ensures debts { HasCleanDisk (state S.Store tx.new.conn.now)
-        → (t : Tables) → HasTables t (state S.Store tx.old.conn.now).now
-        → serials ≡ t.serial → day_back t.day day ≡ None
-        → (b : Book) → IsLawful b → StandsWeighed b t
-        → IfOk result (λ found. IfSome found (λ owing.
-        AreDebts (debts_of b day owing.claim.employer) owing.debts)) }
-    ensures count { HasCleanDisk (state S.Store tx.new.conn.now)
-        → (t : Tables) → HasTables t (state S.Store tx.old.conn.now).now
-        → IfOk result (λ found. IfSome found (λ owing. owing.debts.contribution_count
+    ensures claim { OfTables S.Store tx.old.conn.now tx.new.conn.now (λ t.
+        IfOk result (λ found. option_map (λ owing. owing.claim) found
+        ≡ find_row claim_key t.claims (claim ∷ []))) }
+    ensures debts { OfTables S.Store tx.old.conn.now tx.new.conn.now (λ t.
+        serials ≡ t.serial → day_back t.day day ≡ None → (b : Book) → IsLawful b → StandsWeighed b t
+        → IfOk result (λ found. IfSome found
+        (λ owing. AreDebts (debts_of b day owing.claim.employer) owing.debts))) }
+    ensures count { OfTables S.Store tx.old.conn.now tx.new.conn.now (λ t.
+        IfOk result (λ found. IfSome found
+        (λ owing. owing.debts.contribution_count
         ≡ bound_or_count serials most_credits
-        (credit_count t.credits owing.claim.employer Contribution))) }
-    ensures fault { HasCleanDisk (state S.Store tx.new.conn.now)
-        → (t : Tables) → HasTables t (state S.Store tx.old.conn.now).now
-        → (b : Book) → IsLawful b → StandsWeighed b t → IfErr result IsOfDisk }
+        (credit_count t.credits owing.claim.employer Contribution)))) }
+    ensures fault { OfTables S.Store tx.old.conn.now tx.new.conn.now (λ t.
+        (b : Book) → IsLawful b → StandsWeighed b t → IfErr result IsOfDisk) }
     ensures leaves { Leaves S.Store tx.old.conn.now tx.new.conn.now result }
 {
     let Some(row) = find_claim(tx, claim)? else {
@@ -131,19 +120,15 @@ fn firm_debts<S: Alter>(
     employer: EmployerNo,
 ) -> Result<FirmDebts, Fault>
     ensures same_reference { tx.new.conn.ghost_name ≡ tx.old.conn.ghost_name }
-    ensures debts { HasCleanDisk (state S.Store tx.new.conn.now)
-        → (t : Tables) → HasTables t (state S.Store tx.old.conn.now).now
-        → serials ≡ t.serial → day_back t.day day ≡ None
-        → (b : Book) → IsLawful b → StandsWeighed b t
-        → IfOk result (AreDebts (debts_of b day employer)) }
-    ensures count { HasCleanDisk (state S.Store tx.new.conn.now)
-        → (t : Tables) → HasTables t (state S.Store tx.old.conn.now).now
-        → IfOk result (λ debts. debts.contribution_count
-        ≡ bound_or_count serials most_credits (credit_count t.credits employer Contribution)) }
-    ensures fault { HasCleanDisk (state S.Store tx.new.conn.now)
-        → (t : Tables) → HasTables t (state S.Store tx.old.conn.now).now
-        → (b : Book) → IsLawful b → StandsWeighed b t
-        → IsSome (member_of b.entries employer) → IfErr result IsOfDisk }
+    ensures debts { OfTables S.Store tx.old.conn.now tx.new.conn.now (λ t.
+        serials ≡ t.serial → day_back t.day day ≡ None → (b : Book) → IsLawful b → StandsWeighed b t
+        → IfOk result (AreDebts (debts_of b day employer))) }
+    ensures count { OfTables S.Store tx.old.conn.now tx.new.conn.now (λ t.
+        IfOk result (λ debts. debts.contribution_count
+        ≡ bound_or_count serials most_credits (credit_count t.credits employer Contribution))) }
+    ensures fault { OfTables S.Store tx.old.conn.now tx.new.conn.now (λ t.
+        (b : Book) → IsLawful b → StandsWeighed b t → IsSome (member_of b.entries employer)
+        → IfErr result IsOfDisk) }
     ensures leaves { Leaves S.Store tx.old.conn.now tx.new.conn.now result }
 {
     let overdue = find_overdue(alloc, tx, day, employer)?;
@@ -165,14 +150,12 @@ fn find_overdue<S: Alter>(
     employer: EmployerNo,
 ) -> Result<Overdue, Fault>
     ensures same_reference { tx.new.conn.ghost_name ≡ tx.old.conn.ghost_name }
-    ensures overdue { HasCleanDisk (state S.Store tx.new.conn.now)
-        → (t : Tables) → HasTables t (state S.Store tx.old.conn.now).now
-        → day_back t.day day ≡ None → (b : Book) → IsLawful b → StandsWeighed b t
-        → IfOk result (λ overdue. overdue ≡ overdue_told b day employer) }
-    ensures fault { HasCleanDisk (state S.Store tx.new.conn.now)
-        → (t : Tables) → HasTables t (state S.Store tx.old.conn.now).now
-        → (b : Book) → IsLawful b → StandsWeighed b t
-        → IsSome (member_of b.entries employer) → IfErr result IsOfDisk }
+    ensures overdue { OfTables S.Store tx.old.conn.now tx.new.conn.now (λ t.
+        day_back t.day day ≡ None → (b : Book) → IsLawful b → StandsWeighed b t
+        → IfOk result (λ overdue. overdue ≡ overdue_told b day employer)) }
+    ensures fault { OfTables S.Store tx.old.conn.now tx.new.conn.now (λ t.
+        (b : Book) → IsLawful b → StandsWeighed b t → IsSome (member_of b.entries employer)
+        → IfErr result IsOfDisk) }
     ensures leaves { Leaves S.Store tx.old.conn.now tx.new.conn.now result }
 {
     let Some(member) = find_employer(tx, employer)? else {
@@ -190,13 +173,11 @@ fn count_contributions<S: Alter>(
     employer: EmployerNo,
 ) -> Result<u64, Fault>
     ensures same_reference { tx.new.conn.ghost_name ≡ tx.old.conn.ghost_name }
-    ensures count { HasCleanDisk (state S.Store tx.new.conn.now)
-        → (t : Tables) → HasTables t (state S.Store tx.old.conn.now).now
-        → IfOk result (λ count. count
-        ≡ bound_or_count serials most_credits (credit_count t.credits employer Contribution)) }
-    ensures fault { HasCleanDisk (state S.Store tx.new.conn.now)
-        → (t : Tables) → HasTables t (state S.Store tx.old.conn.now).now
-        → AreInRange t → IfErr result IsOfDisk }
+    ensures count { OfTables S.Store tx.old.conn.now tx.new.conn.now (λ t.
+        IfOk result (λ count. count
+        ≡ bound_or_count serials most_credits (credit_count t.credits employer Contribution))) }
+    ensures fault { OfTables S.Store tx.old.conn.now tx.new.conn.now (λ t.
+        AreInRange t → IfErr result IsOfDisk) }
     ensures leaves { LeavesOpen S.Store tx.old.conn.now tx.new.conn.now result }
 {
     let given = serials.count();

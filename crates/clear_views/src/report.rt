@@ -1,14 +1,12 @@
 //! What a report or a correction is judged by.
 ghost use Rattle.std.specs.Prelude.{◌≡◌, ◌∷◌, [], IfErr, IfOk};
-ghost use Rattle.sqlite.specs.Held.{state};
-ghost use Rattle.sqlite.specs.State.{HasCleanDisk};
 ghost use Rattle.clear_money.specs.Rates.{rate_in_force};
 ghost use Rattle.clear_book.specs.Keyed.{find_row};
 ghost use Rattle.clear_book.specs.RowRanges.{AreInRange};
-ghost use Rattle.clear_book.specs.Tables.{Tables, employer_key, version_at};
+ghost use Rattle.clear_book.specs.Tables.{employer_key, version_at};
 ghost use Rattle.clear_schema.specs.Frame.{Leaves};
 ghost use Rattle.clear_schema.specs.Faults.{IsOfDisk};
-ghost use Rattle.clear_schema.specs.Held.{HasTables};
+ghost use Rattle.clear_debts.specs.Reads.{OfTables};
 
 use crate::lookups::{rate_for, version_of};
 use crate::member::find_member;
@@ -25,20 +23,16 @@ pub fn report_view<S: Alter>(
     report: &WageReport,
 ) -> Result<ReportView, Fault>
     ensures same_reference { tx.new.conn.ghost_name ≡ tx.old.conn.ghost_name }
-    ensures member { HasCleanDisk (state S.Store tx.new.conn.now)
-        → (t : Tables) → HasTables t (state S.Store tx.old.conn.now).now
-        → IfOk result (λ view. view.member
-        ≡ find_row employer_key t.employers (report.now.employer ∷ [])) }
-    ensures version { HasCleanDisk (state S.Store tx.new.conn.now)
-        → (t : Tables) → HasTables t (state S.Store tx.old.conn.now).now
-        → IfOk result (λ view. view.version
-        ≡ version_at t.reports report.now.employer report.now.month) }
-    ensures row { HasCleanDisk (state S.Store tx.new.conn.now)
-        → (t : Tables) → HasTables t (state S.Store tx.old.conn.now).now
-        → IfOk result (λ view. view.row ≡ rate_in_force t.rates report.now.month) }
-    ensures fault { HasCleanDisk (state S.Store tx.new.conn.now)
-        → (t : Tables) → HasTables t (state S.Store tx.old.conn.now).now
-        → AreInRange t → IfErr result IsOfDisk }
+    ensures member { OfTables S.Store tx.old.conn.now tx.new.conn.now (λ t.
+        IfOk result (λ view. view.member
+        ≡ find_row employer_key t.employers (report.now.employer ∷ []))) }
+    ensures version { OfTables S.Store tx.old.conn.now tx.new.conn.now (λ t.
+        IfOk result (λ view. view.version
+        ≡ version_at t.reports report.now.employer report.now.month)) }
+    ensures row { OfTables S.Store tx.old.conn.now tx.new.conn.now (λ t.
+        IfOk result (λ view. view.row ≡ rate_in_force t.rates report.now.month)) }
+    ensures fault { OfTables S.Store tx.old.conn.now tx.new.conn.now (λ t.
+        AreInRange t → IfErr result IsOfDisk) }
     ensures leaves { Leaves S.Store tx.old.conn.now tx.new.conn.now result }
 {
     let member = find_member(tx, report.employer)?;

@@ -1,15 +1,13 @@
 //! What a withdrawal is judged by.
 ghost use Rattle.std.specs.Prelude.{◌≡◌, ◌∷◌, [], IfErr, IfOk};
-ghost use Rattle.sqlite.specs.Held.{state};
-ghost use Rattle.sqlite.specs.State.{HasCleanDisk};
 ghost use Rattle.clear_book.specs.Book.{Book};
 ghost use Rattle.clear_book.specs.Keyed.{find_row};
 ghost use Rattle.clear_book.specs.Machine.{IsLawful};
-ghost use Rattle.clear_book.specs.Tables.{Stands, Tables, claim_key};
+ghost use Rattle.clear_book.specs.Tables.{Stands, claim_key};
 ghost use Rattle.clear_rules.specs.Views.Withdraw.{IsWithdrawView};
 ghost use Rattle.clear_schema.specs.Frame.{Leaves};
 ghost use Rattle.clear_schema.specs.Faults.{IsOfDisk};
-ghost use Rattle.clear_schema.specs.Held.{HasTables};
+ghost use Rattle.clear_debts.specs.Reads.{OfTables};
 
 use crate::member::find_member;
 use clear_book::calls::Withdrawal;
@@ -25,16 +23,12 @@ pub fn withdraw_view<S: Alter>(
     withdrawal: &Withdrawal,
 ) -> Result<WithdrawView, Fault>
     ensures same_reference { tx.new.conn.ghost_name ≡ tx.old.conn.ghost_name }
-    ensures claim { HasCleanDisk (state S.Store tx.new.conn.now)
-        → (t : Tables) → HasTables t (state S.Store tx.old.conn.now).now
-        → IfOk result (λ view. view.claim
-        ≡ find_row claim_key t.claims (withdrawal.now.claim ∷ [])) }
-    ensures view { HasCleanDisk (state S.Store tx.new.conn.now)
-        → (t : Tables) → HasTables t (state S.Store tx.old.conn.now).now
-        → (b : Book) → IsLawful b → Stands b t → IfOk result (IsWithdrawView b withdrawal.now) }
-    ensures fault { HasCleanDisk (state S.Store tx.new.conn.now)
-        → (t : Tables) → HasTables t (state S.Store tx.old.conn.now).now
-        → (b : Book) → IsLawful b → Stands b t → IfErr result IsOfDisk }
+    ensures claim { OfTables S.Store tx.old.conn.now tx.new.conn.now (λ t.
+        IfOk result (λ view. view.claim ≡ find_row claim_key t.claims (withdrawal.now.claim ∷ []))) }
+    ensures view { OfTables S.Store tx.old.conn.now tx.new.conn.now (λ t.
+        (b : Book) → IsLawful b → Stands b t → IfOk result (IsWithdrawView b withdrawal.now)) }
+    ensures fault { OfTables S.Store tx.old.conn.now tx.new.conn.now (λ t.
+        (b : Book) → IsLawful b → Stands b t → IfErr result IsOfDisk) }
     ensures leaves { Leaves S.Store tx.old.conn.now tx.new.conn.now result }
 {
     let registered = find_member(tx, withdrawal.employer)?.is_some();

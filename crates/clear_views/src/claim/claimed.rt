@@ -1,12 +1,10 @@
 //! What is claimed for a worker.
 ghost use Rattle.std.specs.Prelude.{◌≡◌, ◌<◌, ◌^◌, IfErr, IfOk};
-ghost use Rattle.sqlite.specs.Held.{state};
-ghost use Rattle.sqlite.specs.State.{HasCleanDisk};
 ghost use Rattle.clear_book.specs.RowRanges.{AreInRange};
-ghost use Rattle.clear_book.specs.Tables.{Tables, table_claimed};
+ghost use Rattle.clear_book.specs.Tables.{table_claimed};
 ghost use Rattle.clear_schema.specs.Frame.{Leaves};
 ghost use Rattle.clear_schema.specs.Faults.{IsOfDisk};
-ghost use Rattle.clear_schema.specs.Held.{HasTables};
+ghost use Rattle.clear_debts.specs.Reads.{OfTables};
 
 use clear_book::rules::StoreCause;
 use clear_money::numbers::WorkerNo;
@@ -21,12 +19,10 @@ pub(super) fn read_claimed<S: Alter>(
     worker: WorkerNo,
 ) -> Result<u64, Fault>
     ensures same_reference { tx.new.conn.ghost_name ≡ tx.old.conn.ghost_name }
-    ensures claimed { HasCleanDisk (state S.Store tx.new.conn.now)
-        → (t : Tables) → HasTables t (state S.Store tx.old.conn.now).now
-        → IfOk result (λ cents. cents ≡ table_claimed t worker) }
-    ensures fault { HasCleanDisk (state S.Store tx.new.conn.now)
-        → (t : Tables) → HasTables t (state S.Store tx.old.conn.now).now
-        → AreInRange t → table_claimed t worker < 2 ^ 64 → IfErr result IsOfDisk }
+    ensures claimed { OfTables S.Store tx.old.conn.now tx.new.conn.now (λ t.
+        IfOk result (λ cents. cents ≡ table_claimed t worker)) }
+    ensures fault { OfTables S.Store tx.old.conn.now tx.new.conn.now (λ t.
+        AreInRange t → table_claimed t worker < 2 ^ 64 → IfErr result IsOfDisk) }
     ensures leaves { Leaves S.Store tx.old.conn.now tx.new.conn.now result }
 {
     let rows = worker_claims(tx, worker)?;

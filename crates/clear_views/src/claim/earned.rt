@@ -1,15 +1,13 @@
 //! What a worker has earned.
 ghost use Rattle.std.specs.Prelude.{◌≡◌, ◌==◌, ◌<◌, ◌^◌, IfErr, IfOk, sum_by};
 ghost use Rattle.std.specs.List.{AllByRecursion, list_any};
-ghost use Rattle.sqlite.specs.Held.{state};
-ghost use Rattle.sqlite.specs.State.{HasCleanDisk};
 ghost use Rattle.clear_money.specs.Rates.{rate_in_force};
 ghost use Rattle.clear_book.specs.RowRanges.{AreInRange, IsWageRow};
-ghost use Rattle.clear_book.specs.Tables.{Tables, table_entitlement, wages_of_worker};
+ghost use Rattle.clear_book.specs.Tables.{table_entitlement, wages_of_worker};
 ghost use Rattle.clear_book.specs.Workers.{entitlement_for};
 ghost use Rattle.clear_schema.specs.Frame.{Leaves};
 ghost use Rattle.clear_schema.specs.Faults.{IsOfDisk};
-ghost use Rattle.clear_schema.specs.Held.{HasTables};
+ghost use Rattle.clear_debts.specs.Reads.{OfTables};
 
 use clear_book::rows::WageRow;
 use clear_book::rules::StoreCause;
@@ -38,16 +36,13 @@ pub(super) fn read_earned<S: Alter>(
     worker: WorkerNo,
 ) -> Result<Earned, Fault>
     ensures same_reference { tx.new.conn.ghost_name ≡ tx.old.conn.ghost_name }
-    ensures employed { HasCleanDisk (state S.Store tx.new.conn.now)
-        → (t : Tables) → HasTables t (state S.Store tx.old.conn.now).now
-        → IfOk result (λ earned. earned.employed
-        ≡ list_any (λ row. row.employer == employer) (wages_of_worker t worker)) }
-    ensures entitlement { HasCleanDisk (state S.Store tx.new.conn.now)
-        → (t : Tables) → HasTables t (state S.Store tx.old.conn.now).now
-        → IfOk result (λ earned. earned.entitlement ≡ table_entitlement t worker) }
-    ensures fault { HasCleanDisk (state S.Store tx.new.conn.now)
-        → (t : Tables) → HasTables t (state S.Store tx.old.conn.now).now
-        → AreInRange t → table_entitlement t worker < 2 ^ 64 → IfErr result IsOfDisk }
+    ensures employed { OfTables S.Store tx.old.conn.now tx.new.conn.now (λ t.
+        IfOk result (λ earned. earned.employed
+        ≡ list_any (λ row. row.employer == employer) (wages_of_worker t worker))) }
+    ensures entitlement { OfTables S.Store tx.old.conn.now tx.new.conn.now (λ t.
+        IfOk result (λ earned. earned.entitlement ≡ table_entitlement t worker)) }
+    ensures fault { OfTables S.Store tx.old.conn.now tx.new.conn.now (λ t.
+        AreInRange t → table_entitlement t worker < 2 ^ 64 → IfErr result IsOfDisk) }
     ensures leaves { Leaves S.Store tx.old.conn.now tx.new.conn.now result }
 {
     let rates = rate_table(tx)?;
