@@ -1,5 +1,5 @@
 -- What a refusal tells, and refusals that are passed on.
-use Rattle.std.proofs.Common.{◌≡◌, false, inl, inr, ℕ, Option, Some, None, IfSome, Result, Ok, Err, IfErr, IsTrue, refl, sym, subst}
+use Rattle.std.proofs.Common.{◌≡◌, false, inl, inr, ℕ, Option, Some, None, IfSome, MatchOption, Result, Ok, Err, IfErr, IsTrue, refl, sym, subst}
 use Rattle.std.proofs.lemmas.Option.{IfSome_then}
 use Rattle.sqlite.specs.Store as store
 use Rattle.sqlite.specs.Files.{HoldsDatabase}
@@ -17,8 +17,8 @@ use Rattle.clear_book.specs.declared.rules.StoreCause.TheVariants.{Constraint, R
 use Rattle.clear_migrate.specs.Answered.{AnswersOrFails}
 use Rattle.clear_schema.specs.declared.fault.OpenFault.{OpenFault}
 use Rattle.clear_schema.specs.declared.fault.OpenFault.TheVariants.{WrongVersion, Failed}
-use Rattle.clear_host.specs.Contents.{AreBlameless, BlamesCounts, BlamesNone, HasJust, HoldsBelowZero, HoldsOtherLayout, HoldsStore, IfOpen, IfRefused, IsBare, IsOutside, KeepsTables, TellsNone, TellsOnly, TellsOther}
-use Rattle.clear_host.specs.Offices.{IsOurs, Leaves, TellsOf}
+use Rattle.clear_host.specs.Contents.{AreBlameless, BlamesCounts, BlamesNone, FailsOver, HandsBack, HasJust, HoldsBelowZero, HoldsOtherLayout, HoldsStore, IfOpen, IfRefused, IsBare, IsOutside, IsWhyUnopened, KeepsTables, LeavesAlone, MakesNone, TellsNone, TellsOnly, TellsOther}
+use Rattle.clear_host.specs.Offices.{IsOurs, Leaves, TellsOf, TellsOfNew}
 use Rattle.clear_host.specs.declared.offices.NotOpened.{NotOpened}
 
 pub tells_only : (number : ℕ) (fault : OpenFault) → ((told : ℕ) → fault ≡ WrongVersion told → told ≡ number) → TellsOnly number fault
@@ -58,6 +58,24 @@ never_open g P refused none =
 pub none_outside : {S : Type 0} (refused : NotOpened S) → refused.connection ≡ None → IsOutside refused
 none_outside refused none = subst (λ at. IfSome at (λ conn. conn.in_transaction ≡ false)) (sym none) tt
 
+-- a connection that is handed back is one, in no transaction, and nothing had stood in its way
+handed : {X : Type 0} (P W : Type 0) (Q : X → Type 0) (o : Option X) → MatchOption o ⊥ (λ x. P × Q x) → MatchOption o W (λ x. P)
+handed P W Q None back = absurd back
+handed P W Q (Some x) back = back.0
+
+lone : {X : Type 0} (P : Type 0) (Q : X → Type 0) (o : Option X) → MatchOption o ⊥ (λ x. P × Q x) → IfSome o Q
+lone P Q None back = absurd back
+lone P Q (Some x) back = back.1
+
+module _ {S A : Type 0} where
+  pub back_why : (r : Result A (NotOpened S)) → IfErr r HandsBack → IfErr r IsWhyUnopened
+  back_why (Ok it) back = tt
+  back_why (Err refused) back = handed _ _ _ refused.connection back
+
+  pub back_outside : (r : Result A (NotOpened S)) → IfErr r HandsBack → IfErr r IsOutside
+  back_outside (Ok it) back = tt
+  back_outside (Err refused) back = lone _ _ refused.connection back
+
 if_both : {A : Type 0} (o : Option A) (P Q R : A → Type 0) → IfSome o P → IfSome o Q → ((a : A) → P a → Q a → R a) → IfSome o R
 if_both None P Q R p q both = tt
 if_both (Some a) P Q R p q both = both a p q
@@ -73,21 +91,27 @@ module _ {S : Type 0} (g : store.Ghosts S) (image : Image) where
     nothing = λ _. never_open g IsBare refused none;
   }
 
+  pub unopened_alone : (refused : NotOpened S) → refused.connection ≡ None → LeavesAlone g image refused
+  unopened_alone refused none trees holds = never_open g (HasJust trees) refused none
+
+  pub unopened_bare : (refused : NotOpened S) → refused.connection ≡ None → MakesNone g image refused
+  unopened_bare refused none nothing = never_open g IsBare refused none
+
   -- a refusal behind an open that found a store of this program
-  pub refused_leaves : {A Sound : Type 0} (r : Result A (NotOpened S)) (mid : State)
-      → (Sound → IsOurs image)
-      → ((t : Tables) → HoldsStore this_layout t image → Sound → HasTables t mid.now × HasTables t mid.committed)
-      → IfErr r (IfRefused g (λ fault. Sound)) → IfErr r (IfOpen g (KeepsTables mid)) → IfErr r (Leaves g image)
-  refused_leaves (Ok it) mid ours has sound rests = tt
-  refused_leaves (Err refused) mid ours has sound rests = record {
-    tables = λ t holds. if_both refused.connection _ _ _ sound rests (λ conn so keeps clean live. let there = has t holds (so clean) in keeps clean live t there.0 there.1);
-    others = λ number trees holds tells other. IfSome_then refused.connection sound (λ conn so clean live. absurd (other ((ours (so clean)).only_this number (trees, holds, tells))));
-    otherwise = λ trees holds stands. IfSome_then refused.connection sound (λ conn so clean live. absurd ((ours (so clean)).not_other (trees, holds, stands)));
-    unnumbered = λ db holds is which. IfSome_then refused.connection sound (λ conn so clean live. elim which [
+  pub refused_leaves : {A : Type 0} (r : Result A (NotOpened S)) (mid : State) (P : OpenFault → Type 0)
+      → (HasCleanDisk mid → IsOurs image)
+      → ((t : Tables) → HoldsStore this_layout t image → HasCleanDisk mid → HasTables t mid.now × HasTables t mid.committed)
+      → IfErr r (FailsOver g mid P) → IfErr r (Leaves g image)
+  refused_leaves (Ok it) mid P ours has fails = tt
+  refused_leaves (Err refused) mid P ours has fails = record {
+    tables = λ t holds. if_both refused.connection _ _ _ fails.clean fails.rests (λ conn so keeps clean live. let there = has t holds (so clean) in keeps clean live t there.0 there.1);
+    others = λ number trees holds tells other. IfSome_then refused.connection fails.clean (λ conn so clean live. absurd (other ((ours (so clean)).only_this number (trees, holds, tells))));
+    otherwise = λ trees holds stands. IfSome_then refused.connection fails.clean (λ conn so clean live. absurd ((ours (so clean)).not_other (trees, holds, stands)));
+    unnumbered = λ db holds is which. IfSome_then refused.connection fails.clean (λ conn so clean live. elim which [
       | inl none ↦ absurd ((ours (so clean)).only_stores (inr (db, holds, none, is)))
       | inr below ↦ absurd ((ours (so clean)).not_below_zero (db, holds, below, is))
     ]);
-    nothing = λ none. IfSome_then refused.connection sound (λ conn so clean live. absurd ((ours (so clean)).only_stores (inl none)));
+    nothing = λ none. IfSome_then refused.connection fails.clean (λ conn so clean live. absurd ((ours (so clean)).only_stores (inl none)));
   }
 
   -- files that weren't opened
@@ -100,17 +124,27 @@ module _ {S : Type 0} (g : store.Ghosts S) (image : Image) where
     cause = λ _. unconnected g BlamesNone refused none;
   }
 
+  pub unopened_new : (refused : NotOpened S) → refused.connection ≡ None → TellsOfNew g image refused
+  unopened_new refused none = record {
+    version = λ number _. unconnected g (TellsOnly number) refused none;
+    no_number = λ _. unconnected g (TellsOnly 0) refused none;
+    below_zero = λ _. unconnected g TellsOutOfRange refused none;
+    empty = λ _. unconnected g TellsNone refused none;
+    cause = λ _. unconnected g BlamesNone refused none;
+  }
+
   -- a refusal without a number, of files that hold no other layout and no number below 0
-  pub untold_tells : {A Sound : Type 0} (r : Result A (NotOpened S)) (P : OpenFault → Type 0) → (Sound → ¬ HoldsOtherLayout image) → (Sound → ¬ HoldsBelowZero image)
-      → ((fault : OpenFault) → P fault → Sound → AreBlameless image → BlamesNone fault)
-      → IfErr r (IfRefused g TellsNone) → IfErr r (IfRefused g (λ fault. Sound)) → IfErr r (IfRefused g P) → IfErr r (TellsOf g image)
-  untold_tells (Ok it) P not_other not_below blames untold sound cause = tt
-  untold_tells (Err refused) P not_other not_below blames untold sound cause = record {
-    version = λ number _. IfSome_then refused.connection untold (λ conn none clean. none_wrong this_schema number refused.fault (none clean));
-    other = λ holds. IfSome_then refused.connection sound (λ conn so clean. absurd (not_other (so clean) holds));
-    empty = λ _. IfSome_then refused.connection untold (λ conn none clean. none_only 0 refused.fault (none clean));
-    below_zero = λ below. IfSome_then refused.connection sound (λ conn so clean. absurd (not_below (so clean) below));
-    cause = λ blameless. if_both refused.connection _ _ _ sound cause (λ conn so p clean. blames refused.fault (p clean) (so clean) blameless);
+  pub untold_tells : {A : Type 0} (r : Result A (NotOpened S)) (mid : State) (P : OpenFault → Type 0)
+      → (HasCleanDisk mid → ¬ HoldsOtherLayout image) → (HasCleanDisk mid → ¬ HoldsBelowZero image)
+      → ((fault : OpenFault) → P fault → HasCleanDisk mid → AreBlameless image → BlamesNone fault)
+      → IfErr r (FailsOver g mid P) → IfErr r (TellsOf g image)
+  untold_tells (Ok it) mid P not_other not_below blames fails = tt
+  untold_tells (Err refused) mid P not_other not_below blames fails = record {
+    version = λ number _. IfSome_then refused.connection fails.untold (λ conn none clean. none_wrong this_schema number refused.fault (none clean));
+    other = λ holds. IfSome_then refused.connection fails.clean (λ conn so clean. absurd (not_other (so clean) holds));
+    empty = λ _. IfSome_then refused.connection fails.untold (λ conn none clean. none_only 0 refused.fault (none clean));
+    below_zero = λ below. IfSome_then refused.connection fails.clean (λ conn so clean. absurd (not_below (so clean) below));
+    cause = λ blameless. if_both refused.connection _ _ _ fails.clean fails.cause (λ conn so p clean. blames refused.fault (p clean) (so clean) blameless);
   }
 
 -- ---- what is answered of a database that is brought to this program's schema

@@ -128,15 +128,19 @@ abbrev pub KeepsTables : State → State → Type 0
 KeepsTables old new = (t : Tables) → HasTables t old.now → HasTables t old.committed
     → HasTables t new.now × HasTables t new.committed
 
--- a database that they hold, and that tells the number of a schema, is left as it was
-abbrev pub LeavesSchema : {S : Type 0} (g : Ghosts S) → Image → NotOpened S → Type 0
-LeavesSchema g image refused = (number : ℕ) (trees : Trees) → HoldsDatabase image trees
-    → TellsAs number trees → IfOpen g (HasJust trees) refused
+-- a store that was found in this state isn't taken: the fault tells no number, and is so; the disk had returned
+-- what was written then, too; and its tables stay
+pub record FailsOver {S : Type 0} (g : Ghosts S) (s : State) (P : OpenFault → Type 0)
+    (refused : NotOpened S) : Type 0 where
+  pub untold : IfRefused g TellsNone refused
+  pub cause : IfRefused g P refused
+  pub clean : IfRefused g (λ fault. HasCleanDisk s) refused
+  pub rests : IfOpen g (KeepsTables s) refused
 
 -- a database that they hold is left as it was, whatever it is
 abbrev pub LeavesAlone : {S : Type 0} (g : Ghosts S) → Image → NotOpened S → Type 0
-LeavesAlone g image refused = (db : Database) → HoldsDatabase image db.trees → IsDatabase db
-    → IfOpen g (HasJust db.trees) refused
+LeavesAlone g image refused =
+    (trees : Trees) → HoldsDatabase image trees → IfOpen g (HasJust trees) refused
 
 -- where they hold nothing, no table is made
 abbrev pub MakesNone : {S : Type 0} (g : Ghosts S) → Image → NotOpened S → Type 0
@@ -146,9 +150,10 @@ MakesNone g image refused = IsNothing image → IfOpen g IsBare refused
 abbrev pub IsOutside : {S : Type 0} → NotOpened S → Type 0
 IsOutside refused = IfSome refused.connection (λ conn. conn.in_transaction ≡ false)
 
--- the connection is handed back, and nothing had stood in its way
+-- the connection is handed back, in no transaction, and nothing had stood in its way
 abbrev pub HandsBack : {S : Type 0} → NotOpened S → Type 0
-HandsBack refused = MatchOption refused.connection ⊥ (λ connection. refused.hindrance ≡ None)
+HandsBack refused = MatchOption refused.connection ⊥ (λ connection.
+    (refused.hindrance ≡ None) × (connection.in_transaction ≡ false))
 
 -- the refusal tells the fault of some error of the database, and what that error says of the file
 abbrev pub IsByError : {S : Type 0} → NotOpened S → Type 0

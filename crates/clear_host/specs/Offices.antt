@@ -1,7 +1,7 @@
 -- Why an office over a store in files is opened, and why it is not, by what the two files hold.
 use Rattle.std.specs.Prelude.{◌≡◌, ◌≢◌, ◌⊎◌, ℕ, List}
 use Rattle.sqlite.specs.Effect.{Database, IsDatabase}
-use Rattle.sqlite.specs.Files.{AreFoundIn, HoldsDatabase}
+use Rattle.sqlite.specs.Files.{AreFoundIn, HoldsDatabase, IsNothing}
 use Rattle.sqlite.specs.Store.{Ghosts}
 use Rattle.sqlite.specs.Tree.{Trees}
 use Rattle.sqlite_wal.specs.Recovery.{Image}
@@ -16,8 +16,9 @@ use Rattle.clear_database.specs.Opening.{IsBelowZero, TellsNoNumber}
 use Rattle.clear_database.specs.Still.{Holds}
 use Rattle.clear_office.specs.Office.{Keeps}
 use Rattle.clear_host.specs.Contents.{AreBlameless, BlamesNone, HasJust, HoldsBelowZero, HoldsBook}
-use Rattle.clear_host.specs.Contents.{HoldsNoNumber, HoldsOtherLayout, HoldsSchema, HoldsStore, IfOpen}
-use Rattle.clear_host.specs.Contents.{IfRefused, MakesNone, TellsOnly, TellsOther}
+use Rattle.clear_host.specs.Contents.{HoldsNoNumber, HoldsNumberOrNone, HoldsOtherLayout, HoldsSchema}
+use Rattle.clear_host.specs.Contents.{HoldsStore, IfOpen, IfRefused, MakesNone, TellsNone, TellsOnly}
+use Rattle.clear_host.specs.Contents.{TellsOther}
 use Rattle.clear_host.specs.declared.offices.NotOpened.{NotOpened}
 use Rattle.clear_host.specs.declared.offices.Opened.{Opened}
 
@@ -66,3 +67,14 @@ pub record Leaves {S : Type 0} (g : Ghosts S) (image : Image) (refused : NotOpen
   pub unnumbered : (db : Database) → HoldsDatabase image db.trees → IsDatabase db
       → TellsNoNumber db ⊎ IsBelowZero db → IfOpen g (HasJust db.trees) refused
   pub nothing : MakesNone g image refused
+
+-- where a store was to be made, the refusal tells the number of the schema that they hold, at most 0 where
+-- they tell none, that it is below 0, and no number where they hold nothing; where they tell a number or none,
+-- no key and no row is to blame for it
+pub record TellsOfNew {S : Type 0} (g : Ghosts S) (image : Image) (refused : NotOpened S) : Type 0
+  where
+    pub version : (number : ℕ) → HoldsSchema number image → IfRefused g (TellsOnly number) refused
+    pub no_number : HoldsNoNumber image → IfRefused g (TellsOnly 0) refused
+    pub below_zero : HoldsBelowZero image → IfRefused g TellsOutOfRange refused
+    pub empty : IsNothing image → IfRefused g TellsNone refused
+    pub cause : HoldsNumberOrNone image → IfRefused g BlamesNone refused

@@ -1,5 +1,5 @@
 //! Stores in files, brought to this program's schema.
-ghost use Rattle.std.specs.Prelude.{◌≡◌, ℕ, false, IfErr, IfOk};
+ghost use Rattle.std.specs.Prelude.{◌≡◌, false, IfErr, IfOk};
 ghost use Rattle.sqlite.specs.Files.{over_files, HoldsDatabase};
 ghost use Rattle.sqlite.specs.Held.{state};
 ghost use Rattle.sqlite.specs.State.{HasCleanDisk};
@@ -7,12 +7,12 @@ ghost use Rattle.sqlite.specs.Tree.{Trees};
 ghost use Rattle.sqlite_wal.specs.Files.{image_at};
 ghost use Rattle.sqlite_wal.specs.Recovery.{Image};
 ghost use Rattle.clear_book.specs.Tables.{Tables};
-ghost use Rattle.clear_schema.specs.Held.{HasTables, TellsAs};
+ghost use Rattle.clear_schema.specs.Held.{HasTables};
 ghost use Rattle.clear_schema.specs.Schema.{this_layout};
 ghost use Rattle.clear_disk.specs.Seen.{Sees};
 ghost use Rattle.clear_host.specs.Contents.{BlamesNone, HandsBack, HasJust, HoldsNumberOrNone};
 ghost use Rattle.clear_host.specs.Contents.{HoldsStore, IfRefused, IsOutside, IsWhyUnopened};
-ghost use Rattle.clear_host.specs.Contents.{LeavesAlone, LeavesSchema, MakesNone};
+ghost use Rattle.clear_host.specs.Contents.{LeavesAlone, MakesNone};
 ghost use Rattle.clear_host.specs.Offices.{IsOurs, TellsOf};
 ghost use Rattle.clear_host.specs.Paths.{RefusesNoFile};
 
@@ -57,12 +57,11 @@ pub fn bring_to_current<S: Start>(
     ensures mode { IfOk result (λ brought. brought.connection.in_transaction ≡ false) }
     // A path that SQLite takes for something else than the name of a file is refused.
     ensures named { RefusesNoFile path.now result }
-    ensures rests { IfErr result (LeavesSchema over_files (image_at S.Start)) }
     ensures alone { IfErr result (LeavesAlone over_files (image_at S.Start)) }
     ensures bare { IfErr result (MakesNone over_files (image_at S.Start)) }
     ensures still { IfOk result (λ brought. HasCleanDisk (state over_files brought.connection)
-        → (number : ℕ) (trees : Trees) → HoldsDatabase (image_at S.Start) trees
-        → TellsAs number trees → HasJust trees (state over_files brought.connection)) }
+        → (trees : Trees) → HoldsDatabase (image_at S.Start) trees
+        → HasJust trees (state over_files brought.connection)) }
 {
     let connection = open_database(rt, path, start)?;
     bring(connection)
@@ -84,20 +83,16 @@ fn bring<S: Alter>(connection: Connection<S>) -> Result<Brought<S>, NotOpened<S>
         → IfErr result (TellsOf S.Store image) }
     ensures cause { (image : Image) → Sees S.Store image connection → HoldsNumberOrNone image
         → IfErr result (IfRefused S.Store BlamesNone) }
-    ensures unopened { IfErr result IsWhyUnopened }
     ensures back { IfErr result HandsBack }
-    ensures outside { IfErr result IsOutside }
     ensures mode { IfOk result (λ brought. brought.connection.in_transaction ≡ false) }
-    ensures rests { (image : Image) → Sees S.Store image connection
-        → IfErr result (LeavesSchema S.Store image) }
     ensures alone { (image : Image) → Sees S.Store image connection
         → IfErr result (LeavesAlone S.Store image) }
     ensures bare { (image : Image) → Sees S.Store image connection
         → IfErr result (MakesNone S.Store image) }
     ensures still { (image : Image) → Sees S.Store image connection
         → IfOk result (λ brought. HasCleanDisk (state S.Store brought.connection)
-        → (number : ℕ) (trees : Trees) → HoldsDatabase image trees
-        → TellsAs number trees → HasJust trees (state S.Store brought.connection)) }
+        → (trees : Trees) → HoldsDatabase image trees
+        → HasJust trees (state S.Store brought.connection)) }
 {
     let mut connection = connection;
     match to_current(&mut connection) {

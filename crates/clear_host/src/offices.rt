@@ -2,27 +2,23 @@
 //!
 //! A connection on files that were just opened sees what they held. So what is said here of an
 //! office goes by that: by a log and a database file that may have been there.
-ghost use Rattle.std.specs.Prelude.{◌≡◌, false, ℕ, None, IfErr, IfOk};
-ghost use Rattle.sqlite.specs.Files.{IsNothing};
+ghost use Rattle.std.specs.Prelude.{◌≡◌, false, None, IfErr, IfOk};
 ghost use Rattle.sqlite.specs.Held.{state};
 ghost use Rattle.sqlite.specs.State.{HasCleanDisk};
 ghost use Rattle.sqlite_wal.specs.Recovery.{Image};
 ghost use Rattle.clear_book.specs.Allocated.{Represents};
 ghost use Rattle.clear_book.specs.Book.{Book};
 ghost use Rattle.clear_book.specs.Tables.{Tables};
-ghost use Rattle.clear_schema.specs.Faults.{TellsOutOfRange};
 ghost use Rattle.clear_schema.specs.Held.{HasTables};
 ghost use Rattle.clear_schema.specs.Schema.{this_layout};
 ghost use Rattle.clear_disk.specs.Seen.{Sees};
 ghost use Rattle.clear_database.specs.Still.{Holds};
 ghost use Rattle.clear_office.specs.Office.{IsHonest, Keeps};
-ghost use Rattle.clear_host.specs.Contents.{BlamesCounts, BlamesNone, HandsBack, HoldsBelowZero};
-ghost use Rattle.clear_host.specs.Contents.{HoldsNoNumber, HoldsNone, HoldsNumberOrNone};
-ghost use Rattle.clear_host.specs.Contents.{HoldsObjects, HoldsSchema, HoldsStore, IfOpen};
-ghost use Rattle.clear_host.specs.Contents.{IfRefused, IsBare, IsOutside, IsWhyUnopened};
-ghost use Rattle.clear_host.specs.Contents.{KeepsTables, LeavesAlone, LeavesSchema};
-ghost use Rattle.clear_host.specs.Contents.{TellsNone, TellsOnly};
+ghost use Rattle.clear_host.specs.Contents.{BlamesCounts, BlamesNone, FailsOver, HandsBack};
+ghost use Rattle.clear_host.specs.Contents.{HoldsNone, HoldsObjects, HoldsStore, LeavesAlone};
+ghost use Rattle.clear_host.specs.Contents.{MakesNone};
 ghost use Rattle.clear_host.specs.Offices.{IsNewOffice, IsOfficeOver, IsOurs, Leaves, TellsOf};
+ghost use Rattle.clear_host.specs.Offices.{TellsOfNew};
 
 use crate::hindrance::Hindrance;
 use crate::ledger::ledger_day;
@@ -79,26 +75,13 @@ pub(crate) fn new_office<S: Alter>(
     ensures over_none { (image : Image) → Sees S.Store image connection
         → IfOk result (λ opened. IsHonest S.Store opened.office → HoldsNone image) }
     ensures day { IfOk result (λ opened. opened.ledger_day ≡ None) }
-    ensures version { (image : Image) → Sees S.Store image connection
-        → (number : ℕ) → HoldsSchema number image
-        → IfErr result (IfRefused S.Store (TellsOnly number)) }
-    ensures empty { (image : Image) → Sees S.Store image connection → IsNothing image
-        → IfErr result (IfRefused S.Store TellsNone) }
-    ensures undone { (image : Image) → Sees S.Store image connection → IsNothing image
-        → IfErr result (IfOpen S.Store IsBare) }
-    ensures no_number { (image : Image) → Sees S.Store image connection → HoldsNoNumber image
-        → IfErr result (IfRefused S.Store (TellsOnly 0)) }
-    ensures below_zero { (image : Image) → Sees S.Store image connection → HoldsBelowZero image
-        → IfErr result (IfRefused S.Store TellsOutOfRange) }
-    ensures cause { (image : Image) → Sees S.Store image connection → HoldsNumberOrNone image
-        → IfErr result (IfRefused S.Store BlamesNone) }
-    ensures unopened { IfErr result IsWhyUnopened }
+    ensures tells { (image : Image) → Sees S.Store image connection
+        → IfErr result (TellsOfNew S.Store image) }
     ensures back { IfErr result HandsBack }
-    ensures outside { IfErr result IsOutside }
-    ensures rests { (image : Image) → Sees S.Store image connection
-        → IfErr result (LeavesSchema S.Store image) }
     ensures alone { (image : Image) → Sees S.Store image connection
         → IfErr result (LeavesAlone S.Store image) }
+    ensures bare { (image : Image) → Sees S.Store image connection
+        → IfErr result (MakesNone S.Store image) }
 {
     match make_office(alloc, connection, rates) {
         Ok(office) => Ok(Opened {
@@ -129,9 +112,7 @@ pub(crate) fn find_office<S: Alter>(
         → IsOfficeOver S.Store image opened) }
     ensures tells { (image : Image) → Sees S.Store image connection
         → IfErr result (TellsOf S.Store image) }
-    ensures unopened { IfErr result IsWhyUnopened }
     ensures back { IfErr result HandsBack }
-    ensures outside { IfErr result IsOutside }
     ensures leaves { (image : Image) → Sees S.Store image connection
         → IfErr result (Leaves S.Store image) }
 {
@@ -150,9 +131,7 @@ fn find_store<S: Alter>(connection: Connection<S>) -> Result<Store<S>, NotOpened
         → IfOk result (λ store. HasCleanDisk (state S.Store store.conn) → IsOurs image) }
     ensures tells { (image : Image) → Sees S.Store image connection
         → IfErr result (TellsOf S.Store image) }
-    ensures unopened { IfErr result IsWhyUnopened }
     ensures back { IfErr result HandsBack }
-    ensures outside { IfErr result IsOutside }
     ensures leaves { (image : Image) → Sees S.Store image connection
         → IfErr result (Leaves S.Store image) }
 {
@@ -175,14 +154,8 @@ fn confirm<S: Alter>(store: Store<S>) -> Result<Store<S>, NotOpened<S>>
         → Holds S.Store confirmed.conn t) }
     ensures clean { IfOk result (λ confirmed. HasCleanDisk (state S.Store confirmed.conn)
         → HasCleanDisk (state S.Store store.conn)) }
-    ensures untold { IfErr result (IfRefused S.Store TellsNone) }
-    ensures cause { IfErr result (IfRefused S.Store BlamesNone) }
-    ensures unopened { IfErr result IsWhyUnopened }
+    ensures fails { IfErr result (FailsOver S.Store (state S.Store store.conn) BlamesNone) }
     ensures back { IfErr result HandsBack }
-    ensures outside { IfErr result IsOutside }
-    ensures clean_left { IfErr result (IfRefused S.Store (λ fault.
-        HasCleanDisk (state S.Store store.conn))) }
-    ensures rests { IfErr result (IfOpen S.Store (KeepsTables (state S.Store store.conn))) }
 {
     let mut store = store;
     match body::confirm(&mut store.conn) {
@@ -210,14 +183,9 @@ fn office_over<S: Alter>(alloc: Global, store: Store<S>) -> Result<Opened<S>, No
     ensures day { IfOk result (λ opened. IsHonest S.Store opened.office
         → (t : Tables) → HasTables t (state S.Store store.conn).now
         → opened.ledger_day ≡ t.day) }
-    ensures untold { IfErr result (IfRefused S.Store TellsNone) }
-    ensures cause { IfErr result (IfRefused S.Store (BlamesCounts (state S.Store store.conn))) }
-    ensures unopened { IfErr result IsWhyUnopened }
+    ensures fails { IfErr result (FailsOver S.Store (state S.Store store.conn)
+        (BlamesCounts (state S.Store store.conn))) }
     ensures back { IfErr result HandsBack }
-    ensures outside { IfErr result IsOutside }
-    ensures clean_left { IfErr result (IfRefused S.Store (λ fault.
-        HasCleanDisk (state S.Store store.conn))) }
-    ensures rests { IfErr result (IfOpen S.Store (KeepsTables (state S.Store store.conn))) }
 {
     let mut store = store;
     match ledger_day(&mut store) {

@@ -3,18 +3,15 @@
 //! A type `S` stands for what the files hold, its log and its database file. Each clause on values
 //! speaks of a disk that so far has returned what was written to it, so a refusal comes with its
 //! connection, which tells that.
-ghost use Rattle.std.specs.Prelude.{◌≡◌, false, ℕ, None, IfErr, IfOk};
-ghost use Rattle.sqlite.specs.Files.{over_files, IsNothing};
+ghost use Rattle.std.specs.Prelude.{◌≡◌, false, None, IfErr, IfOk};
+ghost use Rattle.sqlite.specs.Files.{over_files};
 ghost use Rattle.sqlite_wal.specs.Files.{image_at};
 ghost use Rattle.clear_book.specs.Book.{first_book};
 ghost use Rattle.clear_book.specs.Machine.{IsLawful};
-ghost use Rattle.clear_schema.specs.Faults.{TellsOutOfRange};
 ghost use Rattle.clear_office.specs.Office.{IsHonest};
-ghost use Rattle.clear_host.specs.Contents.{BlamesNone, HoldsBelowZero, HoldsNoNumber, HoldsNone};
-ghost use Rattle.clear_host.specs.Contents.{HoldsNumberOrNone, HoldsObjects, HoldsSchema, IfOpen};
-ghost use Rattle.clear_host.specs.Contents.{IfRefused, IsBare, IsOutside, IsWhyUnopened};
-ghost use Rattle.clear_host.specs.Contents.{LeavesAlone, LeavesSchema, TellsNone, TellsOnly};
-ghost use Rattle.clear_host.specs.Offices.{IsNewOffice, IsOfficeOver, Leaves, TellsOf};
+ghost use Rattle.clear_host.specs.Contents.{HoldsNone, HoldsObjects, IsOutside, IsWhyUnopened};
+ghost use Rattle.clear_host.specs.Contents.{LeavesAlone, MakesNone};
+ghost use Rattle.clear_host.specs.Offices.{IsNewOffice, IsOfficeOver, Leaves, TellsOf, TellsOfNew};
 ghost use Rattle.clear_host.specs.Paths.{RefusesNoFile};
 
 use crate::offices::{NotOpened, Opened, find_office, new_office};
@@ -53,23 +50,13 @@ pub fn create_office<S: Start>(
     ensures over_none { IfOk result (λ opened. IsHonest over_files opened.office
         → HoldsNone (image_at S.Start)) }
     ensures day { IfOk result (λ opened. opened.ledger_day ≡ None) }
-    ensures version { (number : ℕ) → HoldsSchema number (image_at S.Start)
-        → IfErr result (IfRefused over_files (TellsOnly number)) }
-    ensures empty { IsNothing (image_at S.Start)
-        → IfErr result (IfRefused over_files TellsNone) }
-    ensures undone { IsNothing (image_at S.Start) → IfErr result (IfOpen over_files IsBare) }
-    ensures no_number { HoldsNoNumber (image_at S.Start)
-        → IfErr result (IfRefused over_files (TellsOnly 0)) }
-    ensures below_zero { HoldsBelowZero (image_at S.Start)
-        → IfErr result (IfRefused over_files TellsOutOfRange) }
-    ensures cause { HoldsNumberOrNone (image_at S.Start)
-        → IfErr result (IfRefused over_files BlamesNone) }
+    ensures tells { IfErr result (TellsOfNew over_files (image_at S.Start)) }
     ensures unopened { IfErr result IsWhyUnopened }
     ensures outside { IfErr result IsOutside }
     // A path that SQLite takes for something else than the name of a file is refused.
     ensures named { RefusesNoFile path.now result }
-    ensures rests { IfErr result (LeavesSchema over_files (image_at S.Start)) }
     ensures alone { IfErr result (LeavesAlone over_files (image_at S.Start)) }
+    ensures bare { IfErr result (MakesNone over_files (image_at S.Start)) }
 {
     // No effect at run time: the proof reads from this call that the rates are lawful.
     rates_in_range(rates);

@@ -1,5 +1,5 @@
 -- Whether a store is made at a path, and whether one there is current, by what its two files hold.
-use Rattle.std.specs.Prelude.{◌≡◌, ℕ, Bool, true, false, List, None, MatchOption, Result, Err, IfErr, IfOk}
+use Rattle.std.specs.Prelude.{◌≡◌, Bool, true, false, List, None, MatchOption, Result, Err, IfErr, IfOk}
 use Rattle.sqlite.specs.Held.{state}
 use Rattle.sqlite.specs.State.{HasCleanDisk}
 use Rattle.sqlite.specs.Store.{Ghosts}
@@ -7,8 +7,8 @@ use Rattle.sqlite_wal.specs.Recovery.{Image}
 use Rattle.clear_money.specs.Rates.{Rate}
 use Rattle.clear_office.specs.Office.{IsHonest}
 use Rattle.clear_files.specs.declared.paths.PathKind.{PathKind}
-use Rattle.clear_host.specs.Contents.{HoldsNone, HoldsSchema, IfRefused, IsWhyUnopened, TellsOnly}
-use Rattle.clear_host.specs.Offices.{IsNewOffice, IsOurs}
+use Rattle.clear_host.specs.Contents.{HoldsNone, IsWhyUnopened}
+use Rattle.clear_host.specs.Offices.{IsNewOffice, IsOurs, TellsOfNew}
 use Rattle.clear_host.specs.declared.migrations.Brought.{Brought}
 use Rattle.clear_host.specs.declared.offices.NotOpened.{NotOpened}
 use Rattle.clear_host.specs.declared.offices.Opened.{Opened}
@@ -20,11 +20,10 @@ use Rattle.clear_program.specs.Reasons.{refused_path}
 use Rattle.clear_program.specs.declared.opening.Unopened.{Unopened}
 
 module _ {S : Type 0} (g : Ghosts S) (image : Image) where
-  -- no store is made of these files, and a number that is told for it is that of their schema
+  -- no store is made of these files, and what is told goes by what they hold
   abbrev pub RefusesNew : Stop → Type 0
   RefusesNew why =
-      (refused : NotOpened S) × IsWhyUnopened refused
-      × ((number : ℕ) → HoldsSchema number image → IfRefused g (TellsOnly number) refused)
+      (refused : NotOpened S) × TellsOfNew g image refused × IsWhyUnopened refused
       × (why ≡ by_store refused.fault)
 
   -- where a log was left alone, a file is in the way; else the store is new, and these files held none,

@@ -40,24 +40,17 @@ pub returns-in-Err-clause-cause : goal.returns-in-Err-clause-cause
 returns-in-Err-clause-cause g c image sees known clean =
     blames_none c.in-Err.fault (c.in-Err.ensures.cause clean (number_seen image (state g.S.Store c.args.connection) (sees (c.in-Err.ensures.clean clean)) known))
 
-pub returns-in-Err-clause-rests : goal.returns-in-Err-clause-rests
-returns-in-Err-clause-rests g c image sees number trees holds tells clean live =
-    let old = state g.S.Store c.args.connection in
-    let seen = sees (c.in-Err.ensures.clean clean) in
-    just_seen image old seen trees holds (state g.S.Store c.to_current.new.conn)
-    (c.in-Err.ensures.still clean live)
-
 pub returns-in-Ok-clause-still : goal.returns-in-Ok-clause-still
-returns-in-Ok-clause-still g c image sees clean number trees holds tells =
+returns-in-Ok-clause-still g c image sees clean trees holds =
     let old = state g.S.Store c.args.connection in
     let seen = sees (c.in-Ok.ensures.clean clean) in
     just_seen image old seen trees holds (state g.S.Store c.to_current.new.conn) (c.in-Ok.ensures.still clean (c.in-Ok.ensures.open clean))
 
 pub returns-in-Err-clause-alone : goal.returns-in-Err-clause-alone
-returns-in-Err-clause-alone g c image sees db holds is clean live =
+returns-in-Err-clause-alone g c image sees trees holds clean live =
     let old = state g.S.Store c.args.connection in
     let seen = sees (c.in-Err.ensures.clean clean) in
-    just_seen image old seen db.trees holds (state g.S.Store c.to_current.new.conn) (c.in-Err.ensures.still clean live)
+    just_seen image old seen trees holds (state g.S.Store c.to_current.new.conn) (c.in-Err.ensures.still clean live)
 
 pub returns-in-Err-clause-bare : goal.returns-in-Err-clause-bare
 returns-in-Err-clause-bare g c image sees nothing clean live =

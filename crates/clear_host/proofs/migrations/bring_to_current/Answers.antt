@@ -1,8 +1,8 @@
 use Rattle.std.proofs.lemmas.Result.{err_from_is_err_and}
 use Rattle.sqlite.specs.Files.{over_files}
 use Rattle.sqlite_wal.specs.Files.{image_at}
-use Rattle.clear_host.specs.Contents.{BlamesNone, HasJust, IsBare}
-use Rattle.clear_host.proofs.RefusalLemmas.{none_outside, never_open, unconnected, unopened_tells}
+use Rattle.clear_host.specs.Contents.{BlamesNone}
+use Rattle.clear_host.proofs.RefusalLemmas.{back_outside, back_why, none_outside, unconnected, unopened_alone, unopened_bare, unopened_tells}
 use Rattle.clear_host.proofs.migrations.bring_to_current.Goals as goal
 
 pub returns-clause-current : goal.returns-clause-current
@@ -30,19 +30,14 @@ returns-in_err-connection-clause-cause g c known =
     let p = err_from_is_err_and c.from_residual.result c.from_residual.ensures.1 in
     rw (p.1, p.2) (unconnected over_files BlamesNone c.in_err-connection.field-0.0 c.in_err-connection.ensures.none)
 
-pub returns-clause-rests : goal.returns-clause-rests
-returns-clause-rests g c = c.bring.ensures.rests (image_at g.S.Start) c.in_ok-connection.ensures.sees
-
 pub returns-clause-still : goal.returns-clause-still
 returns-clause-still g c = c.bring.ensures.still (image_at g.S.Start) c.in_ok-connection.ensures.sees
 
-pub returns-in_err-connection-clause-rests : goal.returns-in_err-connection-clause-rests
-returns-in_err-connection-clause-rests g c =
-    let p = err_from_is_err_and c.from_residual.result c.from_residual.ensures.1 in
-    rw (p.1, p.2) λ number trees holds tells. never_open over_files (HasJust trees) c.in_err-connection.field-0.0 c.in_err-connection.ensures.none
-
 pub returns-clause-outside : goal.returns-clause-outside
-returns-clause-outside g c = c.bring.ensures.outside
+returns-clause-outside g c = back_outside c.bring.result c.bring.ensures.back
+
+pub returns-clause-unopened : goal.returns-clause-unopened
+returns-clause-unopened g c = back_why c.bring.result c.bring.ensures.back
 
 pub returns-in_err-connection-clause-outside : goal.returns-in_err-connection-clause-outside
 returns-in_err-connection-clause-outside g c =
@@ -55,7 +50,7 @@ returns-clause-alone g c = c.bring.ensures.alone (image_at g.S.Start) c.in_ok-co
 pub returns-in_err-connection-clause-alone : goal.returns-in_err-connection-clause-alone
 returns-in_err-connection-clause-alone g c =
     let p = err_from_is_err_and c.from_residual.result c.from_residual.ensures.1 in
-    rw (p.1, p.2) λ db holds is. never_open over_files (HasJust db.trees) c.in_err-connection.field-0.0 c.in_err-connection.ensures.none
+    rw (p.1, p.2) (unopened_alone over_files (image_at g.S.Start) c.in_err-connection.field-0.0 c.in_err-connection.ensures.none)
 
 pub returns-clause-bare : goal.returns-clause-bare
 returns-clause-bare g c = c.bring.ensures.bare (image_at g.S.Start) c.in_ok-connection.ensures.sees
@@ -63,7 +58,7 @@ returns-clause-bare g c = c.bring.ensures.bare (image_at g.S.Start) c.in_ok-conn
 pub returns-in_err-connection-clause-bare : goal.returns-in_err-connection-clause-bare
 returns-in_err-connection-clause-bare g c =
     let p = err_from_is_err_and c.from_residual.result c.from_residual.ensures.1 in
-    rw (p.1, p.2) λ nothing. never_open over_files IsBare c.in_err-connection.field-0.0 c.in_err-connection.ensures.none
+    rw (p.1, p.2) (unopened_bare over_files (image_at g.S.Start) c.in_err-connection.field-0.0 c.in_err-connection.ensures.none)
 
 pub returns-clause-mode : goal.returns-clause-mode
 returns-clause-mode g c = c.bring.ensures.mode

@@ -24,9 +24,9 @@ pub returns-clause-tells : goal.returns-clause-tells
 returns-clause-tells g c image sees =
     let store = c.in_ok-store.ensures in
     let mid = state g.S.Store c.in_ok-store.store.conn in
-    untold_tells g.S.Store image c.office_over.result (BlamesCounts mid) (λ sound. (store.ours image sees sound).not_other) (λ sound. (store.ours image sees sound).not_below_zero)
+    untold_tells g.S.Store image c.office_over.result mid (BlamesCounts mid) (λ sound. (store.ours image sees sound).not_other) (λ sound. (store.ours image sees sound).not_below_zero)
     (λ fault none sound. counts_blameless image mid fault (store.ours image sees sound) (λ t holds. (store.found image sees sound t holds).now) none)
-    c.office_over.ensures.untold c.office_over.ensures.clean_left c.office_over.ensures.cause
+    c.office_over.ensures.fails
 
 pub returns-in_err-store-clause-tells : goal.returns-in_err-store-clause-tells
 returns-in_err-store-clause-tells g c image sees =
@@ -36,10 +36,10 @@ returns-in_err-store-clause-tells g c image sees =
 pub returns-clause-leaves : goal.returns-clause-leaves
 returns-clause-leaves g c image sees =
     let store = c.in_ok-store.ensures in
-    refused_leaves g.S.Store image c.office_over.result (state g.S.Store c.in_ok-store.store.conn)
+    refused_leaves g.S.Store image c.office_over.result (state g.S.Store c.in_ok-store.store.conn) _
     (store.ours image sees)
     (λ t holds sound. let it = store.found image sees sound t holds in (it.now, it.committed))
-    c.office_over.ensures.clean_left c.office_over.ensures.rests
+    c.office_over.ensures.fails
 
 pub returns-in_err-store-clause-leaves : goal.returns-in_err-store-clause-leaves
 returns-in_err-store-clause-leaves g c image sees =

@@ -29,11 +29,11 @@ pub returns-in-Ok-clause-tells : goal.returns-in-Ok-clause-tells
 returns-in-Ok-clause-tells g c image sees =
     let old = state g.S.Store c.args.connection in
     let opened = c.in-Ok.ensures.opened in
-    untold_tells g.S.Store image c.confirm.result BlamesNone
+    untold_tells g.S.Store image c.confirm.result (state g.S.Store c.in-Ok.store.conn) BlamesNone
     (λ sound holds. opened.not_other sound (other_is_seen image old (sees (opened.clean sound)) holds))
     (λ sound below. opened.not_below_zero sound (below_seen image old (sees (opened.clean sound)) below))
     (λ fault none sound blameless. none)
-    c.confirm.ensures.untold c.confirm.ensures.clean_left c.confirm.ensures.cause
+    c.confirm.ensures.fails
 
 pub returns-in-Err-clause-tells : goal.returns-in-Err-clause-tells
 returns-in-Err-clause-tells g c image sees =
@@ -76,9 +76,9 @@ returns-in-Ok-clause-leaves g c image sees =
     let old = state g.S.Store c.args.connection in
     let new = state g.S.Store c.in-Ok.store.conn in
     let opened = c.in-Ok.ensures.opened in
-    refused_leaves g.S.Store image c.confirm.result new
+    refused_leaves g.S.Store image c.confirm.result new _
     (λ sound. ours_seen image old (sees (opened.clean sound)) new opened sound)
     (λ t holds sound.
     let found = opened.found sound t (store_seen image old (sees (opened.clean sound)) t holds) in
     (found.now, found.committed))
-    c.confirm.ensures.clean_left c.confirm.ensures.rests
+    c.confirm.ensures.fails

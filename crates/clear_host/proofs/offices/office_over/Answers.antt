@@ -21,7 +21,12 @@ pub returns-in-Ok-clause-day : goal.returns-in-Ok-clause-day
 returns-in-Ok-clause-day g c honest t has =
     c.in-Ok.ensures.day (honest_store g.S.Store c.open.result c.ledger_day.new.store.conn c.open.ensures.value honest) t has
 
-pub returns-in-Err-clause-rests : goal.returns-in-Err-clause-rests
-returns-in-Err-clause-rests g c = rw c.into_connection.ensures λ clean live t now committed.
-    let stays = c.in-Err.ensures.rests clean t now live in
-    (subst (HasTables t) (sym stays.0) committed, subst (HasTables t) (sym stays.1) committed)
+pub returns-in-Err-clause-fails : goal.returns-in-Err-clause-fails
+returns-in-Err-clause-fails g c = rw c.into_connection.ensures record {
+  untold = λ clean. tt;
+  cause = c.in-Err.ensures.cause;
+  clean = c.in-Err.ensures.clean;
+  rests = λ clean live t now committed.
+      let stays = c.in-Err.ensures.rests clean t now live in
+      (subst (HasTables t) (sym stays.0) committed, subst (HasTables t) (sym stays.1) committed);
+}

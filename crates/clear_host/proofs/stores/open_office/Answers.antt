@@ -1,7 +1,7 @@
 use Rattle.std.proofs.lemmas.Result.{err_from_is_err_and}
 use Rattle.sqlite.specs.Files.{over_files}
 use Rattle.sqlite_wal.specs.Files.{image_at}
-use Rattle.clear_host.proofs.RefusalLemmas.{none_outside, unopened_leaves, unopened_tells}
+use Rattle.clear_host.proofs.RefusalLemmas.{back_outside, back_why, none_outside, unopened_leaves, unopened_tells}
 use Rattle.clear_host.proofs.stores.open_office.Goals as goal
 
 pub returns-clause-working : goal.returns-clause-working
@@ -27,7 +27,10 @@ returns-in_err-connection-clause-leaves g c =
     rw (p.1, p.2) (unopened_leaves over_files (image_at g.S.Start) c.in_err-connection.field-0.0 c.in_err-connection.ensures.none)
 
 pub returns-clause-outside : goal.returns-clause-outside
-returns-clause-outside g c = c.find_office.ensures.outside
+returns-clause-outside g c = back_outside c.find_office.result c.find_office.ensures.back
+
+pub returns-clause-unopened : goal.returns-clause-unopened
+returns-clause-unopened g c = back_why c.find_office.result c.find_office.ensures.back
 
 pub returns-in_err-connection-clause-outside : goal.returns-in_err-connection-clause-outside
 returns-in_err-connection-clause-outside g c =
